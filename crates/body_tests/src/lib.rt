@@ -10,6 +10,8 @@ mod asserts;
 #[cfg(test)]
 mod bulk;
 #[cfg(test)]
+mod growth;
+#[cfg(test)]
 mod jobs;
 #[cfg(test)]
 mod lines;

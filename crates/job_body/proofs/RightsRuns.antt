@@ -7,7 +7,7 @@ use Rattle.swan_model.specs.declared.rights.Mode.TheVariants.{InOut, Push, Pop}
 use Rattle.swan_model.specs.declared.value.Value.{Value}
 use Rattle.swan_model.specs.Elision.{first_store, object_holdings, queue_holdings, root, root_holdings, serial}
 use Rattle.swan_model.specs.SerialState.{Activation, Holding, State, Store}
-use Rattle.swan_model.specs.SerialStep.{Effect, goes_on, spawns, ends, faults, state_after, effect, effect_of, after_next, step_on}
+use Rattle.swan_model.specs.SerialStep.{Effect, goes_on, spawns, ends, faults, state_after, effect, effect_of, after_next, step_on, with_failed}
 use Rattle.job_reader.specs.Jobs.{IsJob, IsPlaced}
 use Rattle.job_reader.specs.declared.line.Line.{Line}
 use Rattle.job_reader.specs.declared.line.Line.TheVariants as line
@@ -58,6 +58,10 @@ each-grown : (job : List Line) (before after : Store) (stack : List (Activation 
 each-grown job before after [] grows fits = tt
 each-grown job before after (a ∷ below) grows fits = (fits-grown job before after a grows fits.0, each-grown job before after below grows fits.1)
 
+each-failed : (job : List Line) (store : Store) (stack : List (Activation Standing)) → EachFits job store stack → EachFits job store (with_failed stack)
+each-failed job store [] fits = tt
+each-failed job store (a ∷ below) fits = (record { stands = fits.0.stands; stored = fits.0.stored }, fits.1)
+
 record KeepsTo (job : List Line) (s : State Standing) : Type 0 where
   pub stack : EachFits job s.store s.stack
   pub faults : All IsNotOfRights s.faults
@@ -69,7 +73,7 @@ after-keeps job s below path place (spawns parent child store) fits each booked 
     record { stack = (fits.2, (fits.1, each-grown job s.store store below fits.0 each)); faults = booked }
 after-keeps job s below path place ends fits each booked = record { stack = each; faults = booked }
 after-keeps job s below path place (faults kind) fits each booked =
-    record { stack = each; faults = All-push IsNotOfRights s.faults (record { path = path; place = place; kind = kind }) booked fits }
+    record { stack = each-failed job s.store below each; faults = All-push IsNotOfRights s.faults (record { path = path; place = place; kind = kind }) booked fits }
 
 step_on-keeps : (job : List Line) → IsPlaced First job → Passes before_first_line job → (s : State Standing) (stack : List (Activation Standing)) → EachFits job s.store stack → KeepsTo job s → KeepsTo job (step_on ghosts job s stack)
 step_on-keeps job placed passes s [] each keeps = keeps

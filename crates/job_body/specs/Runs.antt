@@ -102,6 +102,11 @@ abbrev pub run_of_assignment : Standing → ℕ → Option ℕ → Result Value 
 run_of_assignment s to slot (Ok value) = (after_go_with s to (with_slot s.values slot value), ask.Work)
 run_of_assignment s to slot (Err why) = (s, ask.Fail why)
 
+-- the activation once a slot has the value of an operation, and the trouble that this met, if any
+abbrev pub assigned : Standing → Option ℕ → Result Value Trouble → Standing × Option Trouble
+assigned s slot (Ok value) = (record s { values = with_slot s.values slot value }, None)
+assigned s slot (Err why) = (s, Some why)
+
 -- an activation of the task at an index before its first step
 abbrev pub begun_at : ℕ → List Value → ℕ → Action → Standing
 begun_at index values next (action.Demand (demand.Begin kinds)) = record { before = index; at = next; values = values ++ map zero_of kinds }

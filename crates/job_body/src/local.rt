@@ -1,8 +1,10 @@
 // Locals of activations.
 use crate::instruction::{Action, Demand, Num, Operand};
-use crate::operation::{flag, make_int, number_of};
+use crate::operation::{flag, joined, part, part_of_none};
+use crate::slot::Slot;
+use std::alloc::Global;
 use std::marker::Model;
-use swan_model::{Answer, Kind, NoMemory, Record, Value};
+use swan_model::{Answer, Kind, NoMemory, Trouble, Value};
 
 /// What an activation of a job keeps between its steps: where it stands, and the values of its
 /// variables. Contracts see it as a standing of the definitions.
@@ -10,7 +12,7 @@ use swan_model::{Answer, Kind, NoMemory, Record, Value};
 pub struct JobLocal {
     before: u32,
     at: u32,
-    values: Vec<Value>,
+    values: Vec<Slot>,
 }
 
 impl Model for JobLocal {
@@ -22,16 +24,16 @@ impl Model for JobLocal {
 }
 
 impl JobLocal {
-    ghost use Rattle.std.specs.Prelude.{◌≡◌, ◌≤◌, ◌+◌, length, Some, IfOk};
+    ghost use Rattle.std.specs.Prelude.{◌≡◌, ◌≤◌, ◌+◌, ◌++◌, pos, length, Some, IfOk, OnOk, IfSome, IfNone};
     ghost use Rattle.std.specs.Option.{option_copied};
-    ghost use Rattle.job_body.specs.Operations.{number_of};
+    ghost use Rattle.job_body.specs.Operations.{number_of, part};
     ghost use Rattle.swan_model.specs.Values.{bytes_of, kind_of};
     ghost use Rattle.job_body.specs.Runs.{after_go, number_in, record_of, set_by, value_in, value_of, values_after_answer, with_slot};
     ghost use Rattle.swan_model.specs.declared.record.TheConstants.{RECORD_MOST};
-    ghost use Rattle.swan_model.specs.declared.value.Value.TheVariants.{Int};
+    ghost use Rattle.swan_model.specs.declared.value.Value.TheVariants.{Int, Bytes};
 
     /// A local with these parts. `O(1)`.
-    pub(crate) fn new(before: u32, at: u32, values: Vec<Value>) -> JobLocal
+    pub(crate) fn new(before: u32, at: u32, values: Vec<Slot>) -> JobLocal
         ensures { result ≡ record { before = before; at = at; values = values.items } }
     {
         JobLocal { before, at, values }
@@ -51,19 +53,40 @@ impl JobLocal {
         self.at
     }
 
-    /// The value of an operand. A record shares its bytes. `O(1)`.
+    /// The value of an operand, for someone else. A record shares its bytes. `O(1)`, but `O(length)` for the first time after bytes
+    /// were added in place.
     #[inline(always)]
-    pub(crate) fn value(&self, operand: &Operand) -> Result<Value, NoMemory>
-        ensures { IfOk result (λ it. it ≡ value_of self.now.values operand.now) }
+    pub(crate) fn value(&mut self, operand: &Operand) -> Result<Value, NoMemory>
+        ensures value { IfOk result (λ it. it ≡ value_of self.old.values operand.now) }
+        ensures kept { OnOk result (self.new ≡ self.old) }
     {
         match operand {
             Operand::Int(number) => Ok(Value::Int(*number)),
             Operand::Bytes(record) => Ok(Value::Bytes(record.copy()?)),
-            Operand::Variable(slot) => match self.values.get(*slot as usize) {
-                // A number needs no call.
-                Some(Value::Int(number)) => Ok(Value::Int(*number)),
-                Some(value) => value.copy(),
+            Operand::Variable(slot) => match self.values.get_mut(*slot as usize) {
+                Some(slot) => slot.give(),
                 None => Ok(Value::Int(0)),
+            },
+        }
+    }
+
+    /// The part of an operand's bytes from the place i on up to, without, the place j. A number has none. They are shared. `O(1)`,
+    /// but `O(length)` for the first time after bytes were added in place.
+    pub(crate) fn part(
+        &mut self,
+        operand: &Operand,
+        i: i64,
+        j: i64,
+    ) -> Result<Result<Value, Trouble>, NoMemory>
+        ensures part { IfOk result (λ it. it ≡ part (bytes_of (value_of self.old.values operand.now)) i j) }
+        ensures kept { OnOk result (self.new ≡ self.old) }
+    {
+        match operand {
+            Operand::Int(_) => part_of_none(i, j),
+            Operand::Bytes(record) => part(record, i, j),
+            Operand::Variable(slot) => match self.values.get_mut(*slot as usize) {
+                Some(slot) => slot.part(i, j),
+                None => part_of_none(i, j),
             },
         }
     }
@@ -86,7 +109,7 @@ impl JobLocal {
         ensures { result ≡ number_of (value_in self.now.values (Some slot)) }
     {
         match self.values.get(slot as usize) {
-            Some(value) => number_of(value),
+            Some(slot) => slot.number(),
             None => 0,
         }
     }
@@ -102,17 +125,15 @@ impl JobLocal {
         }
     }
 
-    /// The record that an operand means; None where it means a number. `O(1)`.
-    pub(crate) fn record<'a>(&'a self, operand: &'a Operand) -> Option<&'a Record>
-        ensures { option_copied result ≡ record_of (value_of self.now.values operand.now) }
+    /// The bytes that an operand means; None where it means a number. `O(1)`.
+    pub(crate) fn bytes_if_any<'a>(&'a self, operand: &'a Operand) -> Option<&'a [u8]>
+        ensures bytes { option_copied result ≡ record_of (value_of self.now.values operand.now) }
+        ensures most { IfSome result (λ bytes. length bytes.now ≤ RECORD_MOST) }
     {
         match operand {
             Operand::Int(_) => None,
-            Operand::Bytes(record) => Some(record),
-            Operand::Variable(slot) => match self.values.get(*slot as usize) {
-                Some(Value::Bytes(record)) => Some(record),
-                _ => None,
-            },
+            Operand::Bytes(record) => Some(record.as_slice()),
+            Operand::Variable(slot) => self.values.get(*slot as usize)?.bytes(),
         }
     }
 
@@ -121,8 +142,8 @@ impl JobLocal {
         ensures bytes { result.now ≡ bytes_of (value_of self.now.values operand.now) }
         ensures most { length result.now ≤ RECORD_MOST }
     {
-        match self.record(operand) {
-            Some(record) => record.as_slice(),
+        match self.bytes_if_any(operand) {
+            Some(bytes) => bytes,
             None => &[],
         }
     }
@@ -135,8 +156,21 @@ impl JobLocal {
             return Kind::Int;
         };
         match self.values.get(slot as usize) {
-            Some(value) => value.kind(),
+            Some(slot) => slot.kind(),
             None => Kind::Int,
+        }
+    }
+
+    /// Puts a variable into a slot, where it is there. `O(1)`.
+    #[inline(always)]
+    fn set_slot(&mut self, slot: Option<u32>, new: Slot)
+        ensures { self.new ≡ record self.old { values = with_slot self.old.values slot new } }
+    {
+        let Some(slot) = slot else {
+            return;
+        };
+        if let Some(place) = self.values.get_mut(slot as usize) {
+            *place = new;
         }
     }
 
@@ -145,12 +179,7 @@ impl JobLocal {
     pub(crate) fn set(&mut self, slot: Option<u32>, value: Value)
         ensures { self.new ≡ record self.old { values = with_slot self.old.values slot value } }
     {
-        let Some(slot) = slot else {
-            return;
-        };
-        if let Some(place) = self.values.get_mut(slot as usize) {
-            *place = value;
-        }
+        self.set_slot(slot, Slot::new(value));
     }
 
     /// Puts a number into a slot, where it is there. `O(1)`.
@@ -158,9 +187,66 @@ impl JobLocal {
     pub(crate) fn put(&mut self, slot: u32, number: i64)
         ensures { self.new ≡ record self.old { values = with_slot self.old.values (Some slot) (Int number) } }
     {
-        if let Some(value) = self.values.get_mut(slot as usize) {
-            make_int(value, number);
+        if let Some(slot) = self.values.get_mut(slot as usize) {
+            slot.make_int(number);
         }
+    }
+
+    /// Takes the bytes of the first operand out of their slot and leaves the number 0, where they may grow there, where that is the
+    /// slot that is to be set, and where the second operand means another one. `O(1)`.
+    fn take_growing(
+        &mut self,
+        slot: Option<u32>,
+        first: &Operand,
+        second: &Operand,
+    ) -> Option<Vec<u8>>
+        // what is taken
+        ensures taken { IfSome result (λ bytes. bytes.items ≡ bytes_of (value_of self.old.values first.now)) }
+        ensures left { IfSome result (λ _. self.new ≡ record self.old { values = with_slot self.old.values slot (Int (pos 0)) }) }
+        ensures second { IfSome result (λ _. value_of self.new.values second.now ≡ value_of self.old.values second.now) }
+
+        // and where nothing is
+        ensures none { IfNone result (self.new ≡ self.old) }
+    {
+        let (Some(to), Operand::Variable(from)) = (slot, first) else {
+            return None;
+        };
+        if to != *from {
+            return None;
+        }
+        if let Operand::Variable(other) = second {
+            if to == *other {
+                return None;
+            }
+        }
+        self.values.get_mut(to as usize)?.take_growing()
+    }
+
+    /// Sets a slot, where it is there, to the bytes of two operands, joined. `O(length)`; but `O(length of what is added)`, amortised,
+    /// where the slot is that of the first operand, and no one else was given the bytes in it since they were joined there.
+    #[tactic(auto, using(crate::proofs::Values::set_again))]
+    pub(crate) fn join(
+        &mut self,
+        alloc: Global,
+        slot: Option<u32>,
+        first: &Operand,
+        second: &Operand,
+    ) -> Result<(), NoMemory>
+        requires { length (bytes_of (value_of self.old.values first.now) ++ bytes_of (value_of self.old.values second.now)) ≤ RECORD_MOST }
+        ensures { OnOk result (self.new ≡ record self.old {
+          values = with_slot self.old.values slot
+              (Bytes (bytes_of (value_of self.old.values first.now) ++ bytes_of (value_of self.old.values second.now)));
+        }) }
+    {
+        let bytes = match self.take_growing(slot, first, second) {
+            Some(mut bytes) => {
+                bytes.extend_from_slice(self.bytes(second))?;
+                bytes
+            }
+            None => joined(alloc, self.bytes(first), self.bytes(second))?,
+        };
+        self.set_slot(slot, Slot::growing(bytes));
+        Ok(())
     }
 
     /// Sets a slot to a value of its kind; one of the other kind leaves it as it is. `O(1)`.
