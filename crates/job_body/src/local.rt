@@ -6,13 +6,14 @@ use std::alloc::Global;
 use std::marker::Model;
 use swan_model::{Answer, Kind, NoMemory, Trouble, Value};
 
-/// What an activation of a job keeps between its steps: where it stands, and the values of its
-/// variables. Contracts see it as a standing of the definitions.
+/// What an activation of a job keeps between its steps: where it stands, the values of its variables,
+/// and how many children failed by its last sync. Contracts see it as a standing of the definitions.
 #[derive(Drop)]
 pub struct JobLocal {
     before: u32,
     at: u32,
     values: Vec<Slot>,
+    caught: u64,
 }
 
 impl Model for JobLocal {
@@ -20,7 +21,7 @@ impl Model for JobLocal {
 
     ghost Value = { Standing };
 
-    ghost view = { λ local. record { before = local.before; at = local.at; values = local.values.items } };
+    ghost view = { λ local. record { before = local.before; at = local.at; values = local.values.items; caught = local.caught } };
 }
 
 impl JobLocal {
@@ -28,15 +29,21 @@ impl JobLocal {
     ghost use Rattle.std.specs.Option.{option_copied};
     ghost use Rattle.job_body.specs.Operations.{number_of, part};
     ghost use Rattle.swan_model.specs.Values.{bytes_of, kind_of};
-    ghost use Rattle.job_body.specs.Runs.{after_go, number_in, record_of, set_by, value_in, value_of, values_after_answer, with_slot};
+    ghost use Rattle.job_body.specs.Runs.{after_go, caught_after_answer, number_in, record_of, set_by, value_in, value_of, values_after_answer, with_slot};
     ghost use Rattle.swan_model.specs.declared.record.TheConstants.{RECORD_MOST};
     ghost use Rattle.swan_model.specs.declared.value.Value.TheVariants.{Int, Bytes};
 
-    /// A local with these parts. `O(1)`.
+    /// The local of an activation that begins, with no failed children. `O(1)`.
     pub(crate) fn new(before: u32, at: u32, values: Vec<Slot>) -> JobLocal
-        ensures { result ≡ record { before = before; at = at; values = values.items } }
+        ensures { result ≡ record { before = before; at = at; values = values.items; caught = 0 } }
     {
-        JobLocal { before, at, values }
+        let caught = 0;
+        JobLocal {
+            before,
+            at,
+            values,
+            caught,
+        }
     }
 
     /// The index of the line of the last step. `O(1)`.
@@ -51,6 +58,13 @@ impl JobLocal {
         ensures { result ≡ self.now.at }
     {
         self.at
+    }
+
+    /// How many children failed that the last sync waited for; 0 before the first one. `O(1)`.
+    pub(crate) fn caught(&self) -> u64
+        ensures { result ≡ self.now.caught }
+    {
+        self.caught
     }
 
     /// The value of an operand, for someone else. A record shares its bytes. `O(1)`, but `O(length)` for the first time after bytes
@@ -262,7 +276,7 @@ impl JobLocal {
     /// Takes the answer to what the last step asked for. One that it didn't ask for is nothing.
     /// `O(1)`.
     pub(crate) fn tell(&mut self, last: &Action, answer: Answer)
-        ensures { self.new ≡ record self.old { values = values_after_answer self.old.values last.now answer } }
+        ensures { self.new ≡ record self.old { values = values_after_answer self.old.values last.now answer; caught = caught_after_answer self.old.caught last.now answer } }
     {
         match (last, answer) {
             (Action::Demand(Demand::Read(slot, _) | Demand::Pop(slot, _)), Answer::Item(value)) => {
@@ -271,6 +285,7 @@ impl JobLocal {
             (Action::Demand(Demand::Empty(slot, _)), Answer::Flag(is_empty)) => {
                 self.receive(*slot, flag(is_empty));
             }
+            (Action::Demand(Demand::Sync), Answer::Caught(failed)) => self.caught = failed,
             _ => {}
         }
     }

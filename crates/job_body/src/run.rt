@@ -1,6 +1,7 @@
 // Running instructions.
 ghost use Rattle.std.specs.Prelude.{◌≡◌, ◌++◌, ◌+◌, ◌-◌, ◌^◌, ◌<◌, ◌≤◌, suc, min, map, pos, Some, None, IfOk, OnOk, IfSome, IfNone};
 ghost use Rattle.job_body.specs.Runs.{after_answer_by, after_go, ask_by, begun_in, demanded, last_of, next_by, run_of_spawn, value_of, worked};
+ghost use Rattle.job_body.specs.Steps.{counted};
 ghost use Rattle.swan_model.specs.Work.{ask_after, AreWork, local_after};
 ghost use Rattle.swan_model.specs.declared.body.Ask.TheVariants as ask;
 ghost use Rattle.swan_model.specs.declared.value.Value.TheVariants as value;
@@ -133,11 +134,11 @@ fn do_demand(
     }
 }
 
-/// A fuel as a number.
-fn fuel_value(fuel: u64) -> Value
-    ensures { result ≡ value.Int (pos (min fuel (2 ^ 63 - 1))) }
+/// A count as a number of the language.
+fn counted(count: u64) -> Value
+    ensures { result ≡ counted count }
 {
-    Value::Int(fuel.min(i64::MAX as u64) as i64)
+    Value::Int(count.min(i64::MAX as u64) as i64)
 }
 
 /// Does work that goes on at a line. It answers the trouble that it met, and has then done nothing.
@@ -174,8 +175,13 @@ fn do_work(
             None => local.go(to),
             Some(trouble) => return Ok(Some(trouble)),
         },
+        Work::Caught(slot) => {
+            let caught = counted(local.caught());
+            local.set(*slot, caught);
+            local.go(to);
+        }
         Work::Fuel(slot) => {
-            local.set(*slot, fuel_value(fuel));
+            local.set(*slot, counted(fuel));
             local.go(to);
         }
     }
