@@ -1,12 +1,16 @@
 """How time and memory grow with inputs, with texts, with tasks, with the lines of a job and with its names, and with tasks that
-wait for each other, by four workers."""
+wait for each other, by four workers; and how the instructions grow of a record that a task adds to, which needs valgrind."""
 from itertools import repeat
 
 import jobs
 from common import clock, folder, growth, least, written
+from valgrind import instructions
 
 # What several workers may take at most of what one takes, where tasks wait for each other.
 AIM = 5
+
+# What a byte of a record of 4n bytes may take at most of what one of n bytes takes.
+RECORD_AIM = 1.1
 
 COPY = """swan 1
 input lines
@@ -52,6 +56,26 @@ def notes_job(count):
 def tasks_job(count):
     tasks = "".join(f"task t{i}\n  do\nend\n" for i in range(count))
     return f"swan 1\n{tasks}task main\n  do\n  spawn 1 t0\nend\n"
+
+
+def record_job(size):
+    """A task that grows a record to so many bytes, 16 at a time."""
+    return f"""swan 1
+output size int
+task main
+  var line bytes
+  var long int
+  var more int
+  do
+  more = lt long {size}
+  while more
+    line = cat line "0123456789abcdef"
+    long = len line
+    more = lt long {size}
+  end
+  push size long
+end
+"""
 
 
 with folder() as here:
@@ -108,3 +132,8 @@ with folder() as here:
         made = {times: written(here, f"{name}{times}", [text(4_800 * times)]) for times in (1, 2, 4)}
         series(f"check of a job of n {name}", lambda times: ["check", made[times]])
         series(f"elide of a job of n {name}", lambda times: ["elide", 10_000_000, made[times]])
+
+    sizes = [(times, 262_144 * times) for times in (1, 2, 4)]
+    counts = [(times, instructions(here, ["elide"], written(here, f"record{times}", [record_job(size)]))) for times, size in sizes]
+    growth("elide of a record of n bytes: instructions", counts)
+    print(f"elide of a record of n bytes: aim at most {RECORD_AIM} of linear")

@@ -69,8 +69,9 @@ pub fn main_with(
     main_of(alloc, text.as_str())
 }
 
-/// What an ask is answered in tests: 7 to a read, the bytes `ab` to a pop, and to a test that the queue is
-/// empty in the first statement and isn't in a later one.
+/// What an ask is answered in tests: 7 to a read, the bytes `ab` to a pop, to a test that the queue is
+/// empty in the first statement and isn't in a later one, and to a sync that as many children failed as steps were taken
+/// before it. A write is told of failed children too, of which it didn't ask.
 fn answer_to(alloc: Global, ask: &Ask<JobLocal>, steps: u64) -> Result<Answer, NoMemory> {
     match ask {
         Ask::Read(_) => Ok(Answer::Item(Value::Int(7))),
@@ -79,6 +80,8 @@ fn answer_to(alloc: Global, ask: &Ask<JobLocal>, steps: u64) -> Result<Answer, N
             Err(_) => Err(NoMemory),
         },
         Ask::Empty(_) => Ok(Answer::Flag(steps < 2)),
+        Ask::Sync => Ok(Answer::Caught(steps)),
+        Ask::Write(_, _) => Ok(Answer::Caught(9)),
         _ => Ok(Answer::Nothing),
     }
 }
@@ -178,49 +181,68 @@ fn first_push(alloc: Global, body: &JobBody, root: JobLocal) -> Result<String, N
 }
 
 /// What `main` pushes first with these statements, one a line from line 12 on, and `push out v` after them; or its
-/// trouble. It has a number `v`, bytes `b` and a queue `q`.
-pub fn told_one_by_one(alloc: Global, statements: &str) -> Result<String, NoMemory> {
-    let (body, local) = main_with(
-        alloc,
-        "swan 1\nobject x int\noutput out int\ntask idle\ndo\nend\ntask main\nvar v int\nvar b bytes\nqueue q bytes\ndo\n",
-        statements,
+/// trouble. It has a number `v`, bytes `b` and a queue `q`, and the job begins with this line.
+fn told_in_edition(alloc: Global, header: &str, statements: &str) -> Result<String, NoMemory> {
+    let head = format!(in alloc;
+        "{header}\nobject x int\noutput out int\ntask idle\ndo\nend\ntask main\nvar v int\nvar b bytes\nqueue q bytes\ndo\n"
     )?;
+    let (body, local) = main_with(alloc, head.as_str(), statements)?;
     first_push(alloc, &body, local)
 }
 
+/// The same in a job of the first edition.
+pub fn told_one_by_one(alloc: Global, statements: &str) -> Result<String, NoMemory> {
+    told_in_edition(alloc, "swan 1", statements)
+}
+
 /// What is told of statements that come after `prefix`.
-fn told_with(alloc: Global, prefix: &str, statements: &str) -> Result<String, NoMemory> {
+fn told_with(
+    alloc: Global,
+    header: &str,
+    prefix: &str,
+    statements: &str,
+) -> Result<String, NoMemory> {
     let statements = format!(in alloc; "{prefix}{statements}")?;
-    told_one_by_one(alloc, statements.as_str())
+    told_in_edition(alloc, header, statements.as_str())
 }
 
 /// Whether this is told of statements that come after `prefix`.
-fn is_told(alloc: Global, prefix: &str, statements: &str, want: &str) -> bool {
-    match told_with(alloc, prefix, statements) {
+fn is_told(alloc: Global, header: &str, prefix: &str, statements: &str, want: &str) -> bool {
+    match told_with(alloc, header, prefix, statements) {
         Ok(told) => are_same(told.as_str(), want),
         Err(_) => false,
     }
 }
 
 /// Whether a row of a table is so. It has statements, which come after `prefix`, ` => `, and what is told of them.
-fn is_so_one_by_one(alloc: Global, row: &str, prefix: &str) -> bool {
+fn is_so_one_by_one(alloc: Global, header: &str, row: &str, prefix: &str) -> bool {
     match parts_of(row) {
-        Some((statements, want)) => is_told(alloc, prefix, statements, want),
+        Some((statements, want)) => is_told(alloc, header, prefix, statements, want),
         None => false,
     }
 }
 
 /// The first row of a table that isn't so, if there is one.
-fn first_wrong_one_by_one<'a>(alloc: Global, table: &'a str, prefix: &str) -> Option<&'a str> {
+fn first_wrong_one_by_one<'a>(
+    alloc: Global,
+    header: &str,
+    table: &'a str,
+    prefix: &str,
+) -> Option<&'a str> {
     for row in table.lines() {
-        if !is_so_one_by_one(alloc, row, prefix) {
+        if !is_so_one_by_one(alloc, header, row, prefix) {
             return Some(row);
         }
     }
     None
 }
 
-/// Asserts the rows of such a table.
+/// Asserts the rows of such a table, in jobs that begin with this line.
+pub fn hold_in_edition(rt: &impl Abort, alloc: Global, header: &str, table: &str, prefix: &str) {
+    assert_none(rt, first_wrong_one_by_one(alloc, header, table, prefix));
+}
+
+/// Asserts the rows of such a table, in jobs of the first edition.
 pub fn hold_one_by_one(rt: &impl Abort, alloc: Global, table: &str, prefix: &str) {
-    assert_none(rt, first_wrong_one_by_one(alloc, table, prefix));
+    hold_in_edition(rt, alloc, "swan 1", table, prefix);
 }

@@ -10,7 +10,13 @@ mod asserts;
 #[cfg(test)]
 mod bulk;
 #[cfg(test)]
+mod caught;
+#[cfg(test)]
+mod growth;
+#[cfg(test)]
 mod jobs;
+#[cfg(test)]
+mod left;
 #[cfg(test)]
 mod lines;
 #[cfg(test)]

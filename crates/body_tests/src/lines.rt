@@ -19,6 +19,7 @@ pop b q; v = eq b \"ab\" => 1
 push q \"ab\" => 0
 write x 3 => 0
 sync => 0
+v = set 5; sync; write x 3 => 5
 fuel v => 198
 v = set 1; fuel v => 197
 fail -4 => User(-4) at 12

@@ -98,12 +98,16 @@ b = set \"ab\"; b = slice b 1 2; b = cat b b; v = eq b \"bb\" => 1
 b = text 0; v = eq b \"0\" => 1
 b = text -9223372036854775808; v = eq b \"-9223372036854775808\" => 1";
 
-/// A record of 65,535 bytes, 1 + 2 + 4 .. of them, and what comes of one more.
+/// A record of 1,048,575 bytes, 1 + 2 + 4 .. of them, one byte more, which is the most, and what comes of yet one more.
 const LONGEST: &str = "\
-v = set 16; while v; b = cat b b; b = cat b \"x\"; v = sub v 1; end; v = len b => 65535
-v = set 16; while v; b = cat b b; b = cat b \"x\"; v = sub v 1; end; b = cat b \"\"; v = len b => 65535
-v = set 16; while v; b = cat b b; b = cat b \"x\"; v = sub v 1; end; b = cat b \"1\" => TooLong at 18
-v = set 16; while v; b = cat b b; b = cat b \"x\"; v = sub v 1; end; b = cat b b => TooLong at 18";
+v = set 20; while v; b = cat b b; b = cat b \"x\"; v = sub v 1; end; v = len b => 1048575
+v = set 20; while v; b = cat b b; b = cat b \"x\"; v = sub v 1; end; b = cat b \"y\"; v = len b => 1048576
+v = set 20; while v; b = cat b b; b = cat b \"x\"; v = sub v 1; end; b = cat \"y\" b; v = len b => 1048576
+v = set 20; while v; b = cat b b; b = cat b \"x\"; v = sub v 1; end; b = cat b \"y\"; b = cat b \"\"; v = len b => 1048576
+v = set 20; while v; b = cat b b; b = cat b \"x\"; v = sub v 1; end; b = cat b \"y\"; v = at b 1048575 => 121
+v = set 20; while v; b = cat b b; b = cat b \"x\"; v = sub v 1; end; b = cat b \"yz\" => TooLong at 18
+v = set 20; while v; b = cat b b; b = cat b \"x\"; v = sub v 1; end; b = cat b \"y\"; b = cat b \"z\" => TooLong at 19
+v = set 20; while v; b = cat b b; b = cat b \"x\"; v = sub v 1; end; b = cat b b => TooLong at 18";
 
 #[test]
 fn numbers_are_reckoned_with(rt: HostRuntime) {

@@ -75,9 +75,9 @@ fn too_long_in(input: u64) -> Option<PlanAnswer> {
 
 #[test]
 fn the_first_input_with_a_long_line_is_named(rt: HostRuntime) -> Result<(), Fail> {
-    hold_refusal(&rt, rt.alloc(), b'x', 65_535, 65_535, None)?;
-    hold_refusal(&rt, rt.alloc(), b'x', 65_536, 65_536, too_long_in(1))?;
-    hold_refusal(&rt, rt.alloc(), b'x', 65_535, 65_536, too_long_in(2))
+    hold_refusal(&rt, rt.alloc(), b'x', 1_048_576, 1_048_576, None)?;
+    hold_refusal(&rt, rt.alloc(), b'x', 1_048_577, 1_048_577, too_long_in(1))?;
+    hold_refusal(&rt, rt.alloc(), b'x', 1_048_576, 1_048_577, too_long_in(2))
 }
 
 #[test]

@@ -10,7 +10,7 @@ use Rattle.job_body.specs.Names.{slot}
 use Rattle.job_body.specs.Tasks.{before_task, take_of, takes}
 
 take_one : (l : Line) → length (take_of l) ≤ 1
-take_one line.Header = omega arith
+take_one (line.Header edition) = omega arith
 take_one (line.Note text) = omega arith
 take_one (line.Input name) = omega arith
 take_one (line.Output name kind) = omega arith
@@ -29,6 +29,7 @@ take_one (line.Pop v q) = omega arith
 take_one (line.Empty v q) = omega arith
 take_one (line.Spawn fuel task given) = omega arith
 take_one line.Sync = omega arith
+take_one (line.Caught v) = omega arith
 take_one (line.Fuel v) = omega arith
 take_one (line.Fail a) = omega arith
 take_one (line.If a) = omega arith

@@ -98,9 +98,9 @@ begun-at-task job i name values h = ap (begun_by i values) (instruction-at job i
 begun-past : (job : List Line) (values : List Value) → begun_in (program_of job) (length job) values ≡ begun job (length job) values
 begun-past job values =
     ap (begun_by (length job) values) (instruction-at job (length job) ∙ ap (option_map (instruction job (length job))) (slice_get_past job (length job) (omega arith)))
-    ∙ ap (λ at. record { before = length job; at = at; values = values }) (let same : length job + 1 ≡ length job + 1 + 0 = omega arith in same)
-    ∙ ap (λ all. record { before = length job; at = length job + 1 + 0; values = all }) (sym (append-nil values))
-    ∙ ap (λ rest. record { before = length job; at = length job + 1 + passed_over rest; values = values ++ map zero_of (var_kinds (before_task rest)) }) (sym (drop_all (length job + 1) job (omega arith)))
+    ∙ ap (λ at. record { before = length job; at = at; values = values; caught = 0 }) (let same : length job + 1 ≡ length job + 1 + 0 = omega arith in same)
+    ∙ ap (λ all. record { before = length job; at = length job + 1 + 0; values = all; caught = 0 }) (sym (append-nil values))
+    ∙ ap (λ rest. record { before = length job; at = length job + 1 + passed_over rest; values = values ++ map zero_of (var_kinds (before_task rest)); caught = 0 }) (sym (drop_all (length job + 1) job (omega arith)))
 
 begun-found : (job : List Line) (p : ℕ) (found : Option Task) (values : List Value) → IsFound job 0 p found → begun_in (program_of job) p values ≡ begun job p values
 begun-found job p found values (at_line name h e) = begun-at-task job p name values h

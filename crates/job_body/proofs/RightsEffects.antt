@@ -80,7 +80,7 @@ pub work-fits : (job : List Line) (n : ℕ) (store : Store) (a : Activation Stan
 work-fits job n store a fits = fits-told job store store a answer.Nothing (grown-same store) fits
 
 pub sync-fits : (job : List Line) (n : ℕ) (store : Store) (a : Activation Standing) → FitsStore job store a → EffectFits job store (effect n store a ask.Sync)
-sync-fits job n store a fits = fits-told job store store a answer.Nothing (grown-same store) fits
+sync-fits job n store a fits = (grown-same store, record { stands = fits.stands; stored = fits.stored })
 
 pub read-fits : (job : List Line) (n : ℕ) (store : Store) (a : Activation Standing) (place : ℕ) → HeldAt a.holdings place In → FitsStore job store a → EffectFits job store (effect n store a (ask.Read place))
 read-fits job n store a place h fits =
@@ -174,7 +174,7 @@ spawn-fits job n store a child held apart holds stands fits =
       goes : Effect Standing
       goes = spawns
           (record a { answer = answer.Nothing; fuel = a.fuel - child.fuel; children = a.children + 1 })
-          (record { path = a.path ++ a.children ∷ []; local = child.local; answer = answer.Start; fuel = child.fuel; holdings = holds.child; children = 0 })
+          (record { path = a.path ++ a.children ∷ []; local = child.local; answer = answer.Start; fuel = child.fuel; holdings = holds.child; children = 0; failed = 0 })
           after
 
       more : Effect Standing

@@ -3,12 +3,13 @@ use Rattle.std.proofs.Common.{◌≡◌, ℕ, suc, ◌+◌, true, false, Some, N
 use Rattle.std.proofs.lemmas.Bool.{false≢true, true≢false}
 use Rattle.std.proofs.lemmas.List.{drop_all}
 use Rattle.swan_model.specs.declared.rights.Mode.{Mode}
-use Rattle.job_reader.specs.Jobs.{IsPlaced, may_stand}
+use Rattle.job_reader.specs.Jobs.{IsPlaced, edition_of, may_stand}
 use Rattle.job_reader.specs.Positions as positions
 use Rattle.job_reader.specs.Positions.{is_open}
 use Rattle.job_reader.specs.declared.atom.Atom.{Atom}
 use Rattle.job_reader.specs.declared.block.Block.{Block}
 use Rattle.job_reader.specs.declared.block.Block.TheVariants as block
+use Rattle.job_reader.specs.declared.line.Edition.{Edition}
 use Rattle.job_reader.specs.declared.line.Line.{Line}
 use Rattle.job_reader.specs.declared.line.Line.TheVariants as line
 use Rattle.job_reader.specs.declared.position.Position.{Position}
@@ -29,18 +30,18 @@ use Rattle.swan_model.proofs.Lists.{past_none}
 -- ---- statements
 
 -- a statement opens no task and makes nothing
-pub statement : (inside : List Block) (line : Line) → may_stand (InDo inside) line ≡ true → (is_task line ≡ false) × (made_entry line ≡ [])
-statement inside line.Header stands = absurd (false≢true stands)
-statement inside (line.Input name) stands = absurd (false≢true stands)
-statement inside (line.Output name kind) stands = absurd (false≢true stands)
-statement inside (line.Object name kind) stands = absurd (false≢true stands)
-statement inside (line.Task name) stands = absurd (false≢true stands)
-statement inside (line.Param name kind) stands = absurd (false≢true stands)
-statement inside (line.Access mode name kind) stands = absurd (false≢true stands)
-statement inside (line.Var name kind) stands = absurd (false≢true stands)
-statement inside (line.Queue name kind) stands = absurd (false≢true stands)
-statement inside line.Do stands = absurd (false≢true stands)
-statement inside line stands = (refl, refl)
+pub statement : (edition : Edition) (inside : List Block) (line : Line) → may_stand edition (InDo inside) line ≡ true → (is_task line ≡ false) × (made_entry line ≡ [])
+statement edition inside (line.Header named) stands = absurd (false≢true stands)
+statement edition inside (line.Input name) stands = absurd (false≢true stands)
+statement edition inside (line.Output name kind) stands = absurd (false≢true stands)
+statement edition inside (line.Object name kind) stands = absurd (false≢true stands)
+statement edition inside (line.Task name) stands = absurd (false≢true stands)
+statement edition inside (line.Param name kind) stands = absurd (false≢true stands)
+statement edition inside (line.Access mode name kind) stands = absurd (false≢true stands)
+statement edition inside (line.Var name kind) stands = absurd (false≢true stands)
+statement edition inside (line.Queue name kind) stands = absurd (false≢true stands)
+statement edition inside line.Do stands = absurd (false≢true stands)
+statement edition inside line stands = (refl, refl)
 
 -- ---- loops
 
@@ -67,15 +68,15 @@ blocks-next : (job : List Line) (i : ℕ) (line : Line) → slice_get job i ≡ 
 blocks-next job i line is =
     ap (λ (s : Scope). s.blocks) (sym (seen-next job i line is)) ∙ entered-blocks i (seen_at job i) line
 
-declared-blocks : (job : List Line) (held : List Mode) (i : ℕ) (blocks : List BlockWithLine) (line : Line) → may_stand InTask line ≡ true → blocks ≡ [] → BlocksAt (positions.after InTask line) job held (blocks_after i blocks line)
-declared-blocks job held i blocks (line.Note text) stands none = none
-declared-blocks job held i blocks (line.Param name kind) stands none = none
-declared-blocks job held i blocks (line.Access mode name kind) stands none = none
-declared-blocks job held i blocks (line.Var name kind) stands none = none
-declared-blocks job held i blocks (line.Queue name kind) stands none = none
-declared-blocks job held i blocks (line.Object name kind) stands none = none
-declared-blocks job held i blocks line.Do stands none = subst (BlocksStand job held []) (sym none) (refl, tt)
-declared-blocks job held i blocks line stands none = absurd (false≢true stands)
+declared-blocks : (edition : Edition) (job : List Line) (held : List Mode) (i : ℕ) (blocks : List BlockWithLine) (line : Line) → may_stand edition InTask line ≡ true → blocks ≡ [] → BlocksAt (positions.after InTask line) job held (blocks_after i blocks line)
+declared-blocks edition job held i blocks (line.Note text) stands none = none
+declared-blocks edition job held i blocks (line.Param name kind) stands none = none
+declared-blocks edition job held i blocks (line.Access mode name kind) stands none = none
+declared-blocks edition job held i blocks (line.Var name kind) stands none = none
+declared-blocks edition job held i blocks (line.Queue name kind) stands none = none
+declared-blocks edition job held i blocks (line.Object name kind) stands none = none
+declared-blocks edition job held i blocks line.Do stands none = subst (BlocksStand job held []) (sym none) (refl, tt)
+declared-blocks edition job held i blocks line stands none = absurd (false≢true stands)
 
 else-blocks : (job : List Line) (held : List Mode) (inside : List Block) (blocks : List BlockWithLine) → positions.takes_else inside ≡ true → BlocksStand job held inside blocks → BlocksAt (positions.after_else inside) job held blocks
 else-blocks job held [] blocks stands b = absurd (false≢true stands)
@@ -91,13 +92,13 @@ end-blocks job held (innermost ∷ inside) [] b = absurd (cc)
 end-blocks job held (innermost ∷ inside) (first ∷ blocks) b =
     (omega (arith, b.0), end-loops job held first blocks b.1)
 
-done-blocks : (job : List Line) (held : List Mode) (i : ℕ) (inside : List Block) (blocks : List BlockWithLine) (line : Line) → may_stand (InDo inside) line ≡ true → Stands job i held → BlocksStand job held inside blocks → BlocksAt (positions.after_statement inside line) job held (blocks_after i blocks line)
-done-blocks job held i inside blocks (line.If a) stands at b = (ap suc b.0, b.1)
-done-blocks job held i inside blocks (line.While a) stands at b = (ap suc b.0, (at, b.1))
-done-blocks job held i inside blocks line.Else stands at b = else-blocks job held inside blocks stands b
-done-blocks job held i inside blocks line.End stands at b = end-blocks job held inside blocks b
-done-blocks job held i inside blocks (line.Task name) stands at b = absurd (false≢true stands)
-done-blocks job held i inside blocks line stands at b = b
+done-blocks : (edition : Edition) (job : List Line) (held : List Mode) (i : ℕ) (inside : List Block) (blocks : List BlockWithLine) (line : Line) → may_stand edition (InDo inside) line ≡ true → Stands job i held → BlocksStand job held inside blocks → BlocksAt (positions.after_statement inside line) job held (blocks_after i blocks line)
+done-blocks edition job held i inside blocks (line.If a) stands at b = (ap suc b.0, b.1)
+done-blocks edition job held i inside blocks (line.While a) stands at b = (ap suc b.0, (at, b.1))
+done-blocks edition job held i inside blocks line.Else stands at b = else-blocks job held inside blocks stands b
+done-blocks edition job held i inside blocks line.End stands at b = end-blocks job held inside blocks b
+done-blocks edition job held i inside blocks (line.Task name) stands at b = absurd (false≢true stands)
+done-blocks edition job held i inside blocks line stands at b = b
 
 opened-blocks : (job : List Line) (held : List Mode) (n i : ℕ) (blocks : List BlockWithLine) (line : Line) → BlocksAt (positions.after_top n line) job held (blocks_after i blocks line)
 opened-blocks job held n i blocks (line.Task name) = refl
@@ -108,17 +109,17 @@ outside-blocks job held i blocks (line.Task name) = refl
 outside-blocks job held i blocks line = tt
 
 -- what is held after a line: the same after a statement
-blocks-step : (job : List Line) (i : ℕ) (line : Line) (place : Position) → position_at job i ≡ place → slice_get job i ≡ Some line → may_stand place line ≡ true → BlocksAt place job (modes (held_at job i)) (blocks_at job i) → BlocksAt (positions.after place line) job (modes (held_at job (i + 1))) (blocks_after i (blocks_at job i) line)
-blocks-step job i line First at is stands b = tt
-blocks-step job i line (Top n) at is stands b = opened-blocks job _ n i (blocks_at job i) line
-blocks-step job i line Outside at is stands b = outside-blocks job _ i (blocks_at job i) line
-blocks-step job i line InTask at is stands b = declared-blocks job _ i (blocks_at job i) line stands b
-blocks-step job i line (InDo inside) at is stands b =
-    let plain = statement inside line stands in
+blocks-step : (edition : Edition) (job : List Line) (i : ℕ) (line : Line) (place : Position) → position_at job i ≡ place → slice_get job i ≡ Some line → may_stand edition place line ≡ true → BlocksAt place job (modes (held_at job i)) (blocks_at job i) → BlocksAt (positions.after place line) job (modes (held_at job (i + 1))) (blocks_after i (blocks_at job i) line)
+blocks-step edition job i line First at is stands b = tt
+blocks-step edition job i line (Top n) at is stands b = opened-blocks job _ n i (blocks_at job i) line
+blocks-step edition job i line Outside at is stands b = outside-blocks job _ i (blocks_at job i) line
+blocks-step edition job i line InTask at is stands b = declared-blocks edition job _ i (blocks_at job i) line stands b
+blocks-step edition job i line (InDo inside) at is stands b =
+    let plain = statement edition inside line stands in
     let same : modes (held_at job i) ≡ modes (held_at job (i + 1)) = ap modes (sym (held-same job i line is plain.0 plain.1)) in
     let here : Stands job i (modes (held_at job i)) = record { within = ap is_open at; holds = refl } in
     subst (λ held. BlocksAt (positions.after_statement inside line) job held (blocks_after i (blocks_at job i) line)) same
-    (done-blocks job (modes (held_at job i)) i inside (blocks_at job i) line stands here b)
+    (done-blocks edition job (modes (held_at job i)) i inside (blocks_at job i) line stands here b)
 
 drop-past : {A : Type 0} (xs : List A) (i : ℕ) → slice_get xs i ≡ None → drop (i + 1) xs ≡ drop i xs
 drop-past xs i h =
@@ -126,14 +127,14 @@ drop-past xs i h =
     drop_all (i + 1) xs (omega (arith, past)) ∙ sym (drop_all i xs past)
 
 -- the blocks at each line
-pub blocks-stand : (job : List Line) → IsPlaced First job → (i : ℕ) → BlocksAt (position_at job i) job (modes (held_at job i)) (blocks_at job i)
+pub blocks-stand : (job : List Line) → IsPlaced (edition_of job) First job → (i : ℕ) → BlocksAt (position_at job i) job (modes (held_at job i)) (blocks_at job i)
 blocks-stand job placed =
     along job (λ i. BlocksAt (position_at job i) job (modes (held_at job i)) (blocks_at job i)) tt
     (λ i past b. rw (take-past job i past, drop-past job i past) b)
     (λ i line is b.
     subst (λ p. BlocksAt p job (modes (held_at job (i + 1))) (blocks_at job (i + 1))) (sym (place-next job i line is))
     (subst (BlocksAt (positions.after (position_at job i) line) job (modes (held_at job (i + 1)))) (sym (blocks-next job i line is))
-    (blocks-step job i line (position_at job i) refl is (stands_here job i line placed is) b)))
+    (blocks-step (edition_of job) job i line (position_at job i) refl is (stands_here job i line placed is) b)))
 
 -- ---- exits
 
@@ -160,28 +161,28 @@ end-exits : (job : List Line) (held : List Mode) (inside : List Block) (i : ℕ)
 end-exits job held [] i exits next e = tt
 end-exits job held (innermost ∷ inside) i exits next e = (next refl, next refl, e)
 
-done-exits : (job : List Line) (held : List Mode) (inside : List Block) (i : ℕ) (line : Line) (exits : List Exit) → may_stand (InDo inside) line ≡ true → (is_open (positions.after_statement inside line) ≡ true → Stands job (i + 1) held) → ExitsAt (positions.after_statement inside line) job held exits → ExitsStand job held inside (exits_with i line exits)
-done-exits job held inside i (line.If a) exits stands next e = if-exits job held block.If inside i a exits e
-done-exits job held inside i (line.While a) exits stands next e = if-exits job held block.While inside i a exits e
-done-exits job held inside i line.Else exits stands next e = else-exits job held inside i exits stands next e
-done-exits job held inside i line.End exits stands next e = end-exits job held inside i exits next e
-done-exits job held inside i (line.Task name) exits stands next e = absurd (false≢true stands)
-done-exits job held inside i line exits stands next e = e
+done-exits : (edition : Edition) (job : List Line) (held : List Mode) (inside : List Block) (i : ℕ) (line : Line) (exits : List Exit) → may_stand edition (InDo inside) line ≡ true → (is_open (positions.after_statement inside line) ≡ true → Stands job (i + 1) held) → ExitsAt (positions.after_statement inside line) job held exits → ExitsStand job held inside (exits_with i line exits)
+done-exits edition job held inside i (line.If a) exits stands next e = if-exits job held block.If inside i a exits e
+done-exits edition job held inside i (line.While a) exits stands next e = if-exits job held block.While inside i a exits e
+done-exits edition job held inside i line.Else exits stands next e = else-exits job held inside i exits stands next e
+done-exits edition job held inside i line.End exits stands next e = end-exits job held inside i exits next e
+done-exits edition job held inside i (line.Task name) exits stands next e = absurd (false≢true stands)
+done-exits edition job held inside i line exits stands next e = e
 
 -- the exits of the rest of a task
-exits-step : (job : List Line) (i : ℕ) (line : Line) (lines : List Line) (place : Position) → position_at job i ≡ place → slice_get job i ≡ Some line → may_stand place line ≡ true → ExitsAt (position_at job (i + 1)) job (modes (held_at job (i + 1))) (exits (i + 1) lines) → ExitsAt place job (modes (held_at job i)) (exits_with i line (exits (i + 1) lines))
-exits-step job i line lines First at is stands later = tt
-exits-step job i line lines (Top n) at is stands later = tt
-exits-step job i line lines Outside at is stands later = tt
-exits-step job i line lines InTask at is stands later = tt
-exits-step job i line lines (InDo inside) at is stands later =
-    let plain = statement inside line stands in
+exits-step : (edition : Edition) (job : List Line) (i : ℕ) (line : Line) (lines : List Line) (place : Position) → position_at job i ≡ place → slice_get job i ≡ Some line → may_stand edition place line ≡ true → ExitsAt (position_at job (i + 1)) job (modes (held_at job (i + 1))) (exits (i + 1) lines) → ExitsAt place job (modes (held_at job i)) (exits_with i line (exits (i + 1) lines))
+exits-step edition job i line lines First at is stands later = tt
+exits-step edition job i line lines (Top n) at is stands later = tt
+exits-step edition job i line lines Outside at is stands later = tt
+exits-step edition job i line lines InTask at is stands later = tt
+exits-step edition job i line lines (InDo inside) at is stands later =
+    let plain = statement edition inside line stands in
     let held = modes (held_at job i) in
     let same : modes (held_at job (i + 1)) ≡ held = ap modes (held-same job i line is plain.0 plain.1) in
     let next : position_at job (i + 1) ≡ positions.after_statement inside line = place-next job i line is ∙ ap (λ p. positions.after p line) at in
     let there : ExitsAt (positions.after_statement inside line) job held (exits (i + 1) lines) =
     subst (λ p. ExitsAt p job held (exits (i + 1) lines)) next (subst (λ h. ExitsAt (position_at job (i + 1)) job h (exits (i + 1) lines)) same later) in
-    done-exits job held inside i line (exits (i + 1) lines) stands
+    done-exits edition job held inside i line (exits (i + 1) lines) stands
     (λ goes. record { within = ap is_open next ∙ goes; holds = sym same }) there
 
 never-open : (place : Position) (job : List Line) (held : List Mode) (exits : List Exit) → is_open place ≡ false → ExitsAt place job held exits
@@ -191,19 +192,19 @@ never-open InTask job held exits e = tt
 never-open (InDo inside) job held exits e = absurd (true≢false e)
 never-open Outside job held exits e = tt
 
-pub exits-stand : (job : List Line) → IsPlaced First job → (lines : List Line) (i : ℕ) → drop i job ≡ lines → ExitsAt (position_at job i) job (modes (held_at job i)) (exits i lines)
+pub exits-stand : (job : List Line) → IsPlaced (edition_of job) First job → (lines : List Line) (i : ℕ) → drop i job ≡ lines → ExitsAt (position_at job i) job (modes (held_at job i)) (exits i lines)
 exits-stand job placed [] i rest =
-    never-open (position_at job i) job _ [] (subst (IsPlaced (position_at job i)) rest (placed-from First job i placed))
+    never-open (position_at job i) job _ [] (subst (IsPlaced (edition_of job) (position_at job i)) rest (placed-from (edition_of job) First job i placed))
 exits-stand job placed (line ∷ lines) i rest =
     let is = item_of_drop job i line lines rest in
-    exits-step job i line lines (position_at job i) refl is (stands_here job i line placed is) (exits-stand job placed lines (i + 1) (rest_of_drop job i line lines rest))
+    exits-step (edition_of job) job i line lines (position_at job i) refl is (stands_here job i line placed is) (exits-stand job placed lines (i + 1) (rest_of_drop job i line lines rest))
 
 first-stands : (job : List Line) (held : List Mode) (innermost : Block) (inside : List Block) (exits : List Exit) (end : ℕ) → ExitsStand job held (innermost ∷ inside) exits → Stands job (first_exit end exits).otherwise held × Stands job (first_exit end exits).after held
 first-stands job held innermost inside [] end e = absurd e
 first-stands job held innermost inside (exit ∷ exits) end e = (e.0, e.1)
 
 -- how the block goes on that is open after a line
-pub exit-stands : (job : List Line) (i : ℕ) (innermost : Block) (inside : List Block) (held : List Mode) → IsPlaced First job → position_at job (i + 1) ≡ InDo (innermost ∷ inside) → modes (held_at job (i + 1)) ≡ held → Stands job (exit_at job i).otherwise held × Stands job (exit_at job i).after held
+pub exit-stands : (job : List Line) (i : ℕ) (innermost : Block) (inside : List Block) (held : List Mode) → IsPlaced (edition_of job) First job → position_at job (i + 1) ≡ InDo (innermost ∷ inside) → modes (held_at job (i + 1)) ≡ held → Stands job (exit_at job i).otherwise held × Stands job (exit_at job i).after held
 exit-stands job i innermost inside held placed at same =
     first-stands job held innermost inside (exits (i + 1) (drop (i + 1) job)) (length job)
     (subst (λ h. ExitsStand job h (innermost ∷ inside) (exits (i + 1) (drop (i + 1) job))) same

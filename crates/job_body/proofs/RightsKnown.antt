@@ -8,10 +8,11 @@ use Rattle.swan_model.specs.declared.rights.Mode.TheVariants.{InOut, Push, Pop, 
 use Rattle.swan_model.specs.declared.value.Kind.{Kind}
 use Rattle.swan_model.specs.declared.value.Kind.TheVariants as kind
 use Rattle.job_reader.specs.Faults.{◌>>=◌}
-use Rattle.job_reader.specs.Jobs.{IsPlaced, may_stand}
+use Rattle.job_reader.specs.Jobs.{IsPlaced, edition_of, may_stand}
 use Rattle.job_reader.specs.Positions as positions
 use Rattle.job_reader.specs.declared.block.Block.{Block}
 use Rattle.job_reader.specs.declared.fault.JobKind.{JobKind}
+use Rattle.job_reader.specs.declared.line.Edition.{Edition}
 use Rattle.job_reader.specs.declared.line.Line.{Line}
 use Rattle.job_reader.specs.declared.line.Line.TheVariants as line
 use Rattle.job_reader.specs.declared.position.Position.{Position}
@@ -154,30 +155,30 @@ top-none done line queue object =
     ∙ ap (λ es. (flat_map root_queue_entry done ++ []) ++ (flat_map root_object_entry done ++ es)) object
     ∙ none-between [] (flat_map root_queue_entry done) (flat_map root_object_entry done)
 
-top-first : (job done : List Line) (so_far : TaskSoFar) (before : Before) (line : Line) → IsTrue (may_stand First line) → KnownAtTop done before → KnownAtTop (done ++ line ∷ []) (checks.after_line before line)
-top-first job done so_far before line.Header stands k = top-quiet done before line.Header (top-none done line.Header refl refl) (λ rest. refl) k
-top-first job done so_far before line stands k = absurd (false≢true stands)
+top-first : (edition : Edition) (job done : List Line) (so_far : TaskSoFar) (before : Before) (line : Line) → IsTrue (may_stand edition First line) → KnownAtTop done before → KnownAtTop (done ++ line ∷ []) (checks.after_line before line)
+top-first edition job done so_far before (line.Header named) stands k = top-quiet done before (line.Header named) (top-none done (line.Header named) refl refl) (λ rest. refl) k
+top-first edition job done so_far before line stands k = absurd (false≢true stands)
 
-top-step : (job done rest : List Line) (n : ℕ) (so_far : TaskSoFar) (before : Before) (line : Line) → job ≡ done ++ line ∷ rest → IsTrue (may_stand (Top n) line) → check_line before line ≡ Ok tt → KnownAtTop done before → KnownAt (positions.after (Top n) line) job (done ++ line ∷ []) (so_far_after so_far line) (checks.after_line before line)
-top-step job done rest n so_far before (line.Note text) whole stands passes k =
+top-step : (edition : Edition) (job done rest : List Line) (n : ℕ) (so_far : TaskSoFar) (before : Before) (line : Line) → job ≡ done ++ line ∷ rest → IsTrue (may_stand edition (Top n) line) → check_line before line ≡ Ok tt → KnownAtTop done before → KnownAt (positions.after (Top n) line) job (done ++ line ∷ []) (so_far_after so_far line) (checks.after_line before line)
+top-step edition job done rest n so_far before (line.Note text) whole stands passes k =
     top-quiet done before (line.Note text) (top-none done (line.Note text) refl refl) (λ more. refl) k
-top-step job done rest n so_far before (line.Input name) whole stands passes k =
+top-step edition job done rest n so_far before (line.Input name) whole stands passes k =
     let first = flat_map root_queue_entry done in
     let second = flat_map root_object_entry done in
     top-held done before (line.Input name) name Pop (Held Pop kind.Bytes) first second refl refl
     (root_entries-more done (line.Input name) ∙ access-between [] first second (name, Pop)) (λ more. refl) passes k
-top-step job done rest n so_far before (line.Output name kind) whole stands passes k =
+top-step edition job done rest n so_far before (line.Output name kind) whole stands passes k =
     let first = flat_map root_queue_entry done in
     let second = flat_map root_object_entry done in
     top-held done before (line.Output name kind) name Push (Held Push kind) first second refl refl
     (root_entries-more done (line.Output name kind) ∙ access-between [] first second (name, Push)) (λ more. refl) passes k
-top-step job done rest n so_far before (line.Object name kind) whole stands passes k =
+top-step edition job done rest n so_far before (line.Object name kind) whole stands passes k =
     let first = flat_map root_queue_entry done in
     let second = flat_map root_object_entry done in
     top-held done before (line.Object name kind) name InOut (Held InOut kind) (root_entries done) [] refl (sym (append-nil (root_entries done)))
     (root_entries-more done (line.Object name kind) ∙ made-between [] first second (name, InOut)) (λ more. refl) passes k
-top-step job done rest n so_far before (line.Task name) whole stands passes k = top-opens job done rest before name whole k
-top-step job done rest n so_far before line whole stands passes k = absurd (false≢true stands)
+top-step edition job done rest n so_far before (line.Task name) whole stands passes k = top-opens job done rest before name whole k
+top-step edition job done rest n so_far before line whole stands passes k = absurd (false≢true stands)
 
 -- ---- lines of a task
 
@@ -252,34 +253,34 @@ task-takes job so_far before name mode kind is_fresh k =
     task-held job so_far before (after_declare_taken name (Held mode kind) before) (line.Access mode name kind) name mode (Held mode kind) (first ++ second) third refl (sym (append_assoc first second third))
     (entries-more job so_far (line.Access mode name kind) ∙ access-between first second third (name, mode)) is_fresh (declares-taken before so_far.name name (Held mode kind) k.task) k
 
-task-step : (job done : List Line) (so_far : TaskSoFar) (before : Before) (line : Line) → IsTrue (may_stand InTask line) → check_line before line ≡ Ok tt → KnownInTask job so_far before → KnownAt (positions.after InTask line) job (done ++ line ∷ []) (so_far_after so_far line) (checks.after_line before line)
-task-step job done so_far before (line.Note text) stands passes k = task-quiet job so_far before (line.Note text) refl refl k
-task-step job done so_far before (line.Param name kind) stands passes k =
+task-step : (edition : Edition) (job done : List Line) (so_far : TaskSoFar) (before : Before) (line : Line) → IsTrue (may_stand edition InTask line) → check_line before line ≡ Ok tt → KnownInTask job so_far before → KnownAt (positions.after InTask line) job (done ++ line ∷ []) (so_far_after so_far line) (checks.after_line before line)
+task-step edition job done so_far before (line.Note text) stands passes k = task-quiet job so_far before (line.Note text) refl refl k
+task-step edition job done so_far before (line.Param name kind) stands passes k =
     task-variable job so_far before (after_declare_taken name (Variable kind) before) (line.Param name kind) name (Variable kind) refl refl refl (first_of_two (fresh (known before name)) _ tt passes) (declares-taken before so_far.name name (Variable kind) k.task) k
-task-step job done so_far before (line.Access mode name kind) stands passes k =
+task-step edition job done so_far before (line.Access mode name kind) stands passes k =
     task-takes job so_far before name mode kind (first_of_two (fresh (known before name)) _ tt passes) k
-task-step job done so_far before (line.Var name kind) stands passes k =
+task-step edition job done so_far before (line.Var name kind) stands passes k =
     task-variable job so_far before (after_declare name (Variable kind) before) (line.Var name kind) name (Variable kind) refl refl refl passes (declares-declared before so_far.name name (Variable kind) k.task) k
-task-step job done so_far before (line.Queue name kind) stands passes k =
+task-step edition job done so_far before (line.Queue name kind) stands passes k =
     task-makes job so_far before (line.Queue name kind) name PushPop (Held PushPop kind) refl refl refl passes k
-task-step job done so_far before (line.Object name kind) stands passes k =
+task-step edition job done so_far before (line.Object name kind) stands passes k =
     task-makes job so_far before (line.Object name kind) name InOut (Held InOut kind) refl refl refl passes k
-task-step job done so_far before line.Do stands passes k = task-quiet job so_far before line.Do refl refl k
-task-step job done so_far before line stands passes k = absurd (false≢true stands)
+task-step edition job done so_far before line.Do stands passes k = task-quiet job so_far before line.Do refl refl k
+task-step edition job done so_far before line stands passes k = absurd (false≢true stands)
 
 -- a statement declares nothing
-do-quiet : (blocks : List Block) (so_far : TaskSoFar) (before : Before) (line : Line) → IsTrue (may_stand (InDo blocks) line) → (access_entry line ≡ []) × (made_entry line ≡ []) × (so_far_after so_far line ≡ more_lines so_far line) × (checks.after_line before line ≡ before)
-do-quiet blocks so_far before line.Header stands = absurd (false≢true stands)
-do-quiet blocks so_far before (line.Input name) stands = absurd (false≢true stands)
-do-quiet blocks so_far before (line.Output name kind) stands = absurd (false≢true stands)
-do-quiet blocks so_far before (line.Object name kind) stands = absurd (false≢true stands)
-do-quiet blocks so_far before (line.Task name) stands = absurd (false≢true stands)
-do-quiet blocks so_far before (line.Param name kind) stands = absurd (false≢true stands)
-do-quiet blocks so_far before (line.Access mode name kind) stands = absurd (false≢true stands)
-do-quiet blocks so_far before (line.Var name kind) stands = absurd (false≢true stands)
-do-quiet blocks so_far before (line.Queue name kind) stands = absurd (false≢true stands)
-do-quiet blocks so_far before line.Do stands = absurd (false≢true stands)
-do-quiet blocks so_far before line stands = (refl, refl, refl, refl)
+do-quiet : (edition : Edition) (blocks : List Block) (so_far : TaskSoFar) (before : Before) (line : Line) → IsTrue (may_stand edition (InDo blocks) line) → (access_entry line ≡ []) × (made_entry line ≡ []) × (so_far_after so_far line ≡ more_lines so_far line) × (checks.after_line before line ≡ before)
+do-quiet edition blocks so_far before (line.Header named) stands = absurd (false≢true stands)
+do-quiet edition blocks so_far before (line.Input name) stands = absurd (false≢true stands)
+do-quiet edition blocks so_far before (line.Output name kind) stands = absurd (false≢true stands)
+do-quiet edition blocks so_far before (line.Object name kind) stands = absurd (false≢true stands)
+do-quiet edition blocks so_far before (line.Task name) stands = absurd (false≢true stands)
+do-quiet edition blocks so_far before (line.Param name kind) stands = absurd (false≢true stands)
+do-quiet edition blocks so_far before (line.Access mode name kind) stands = absurd (false≢true stands)
+do-quiet edition blocks so_far before (line.Var name kind) stands = absurd (false≢true stands)
+do-quiet edition blocks so_far before (line.Queue name kind) stands = absurd (false≢true stands)
+do-quiet edition blocks so_far before line.Do stands = absurd (false≢true stands)
+do-quiet edition blocks so_far before line stands = (refl, refl, refl, refl)
 
 after-do : (blocks : List Block) (line : Line) (job done : List Line) (so_far : TaskSoFar) (before : Before) → KnownInTask job so_far before → KnownAt (positions.after_statement blocks line) job done so_far before
 after-do [] line.Else job done so_far before k = k
@@ -288,44 +289,44 @@ after-do [] line.End job done so_far before k = k
 after-do (innermost ∷ blocks) line.End job done so_far before k = k
 after-do blocks line job done so_far before k = k
 
-do-step : (job done : List Line) (blocks : List Block) (so_far : TaskSoFar) (before : Before) (line : Line) → IsTrue (may_stand (InDo blocks) line) → KnownInTask job so_far before → KnownAt (positions.after (InDo blocks) line) job (done ++ line ∷ []) (so_far_after so_far line) (checks.after_line before line)
-do-step job done blocks so_far before line stands k =
-    let quiet = do-quiet blocks so_far before line stands in
+do-step : (edition : Edition) (job done : List Line) (blocks : List Block) (so_far : TaskSoFar) (before : Before) (line : Line) → IsTrue (may_stand edition (InDo blocks) line) → KnownInTask job so_far before → KnownAt (positions.after (InDo blocks) line) job (done ++ line ∷ []) (so_far_after so_far line) (checks.after_line before line)
+do-step edition job done blocks so_far before line stands k =
+    let quiet = do-quiet edition blocks so_far before line stands in
     let after = after-do blocks line job (done ++ line ∷ []) (more_lines so_far line) before (task-quiet job so_far before line quiet.0 quiet.1 k) in
     subst (λ s. KnownAt (positions.after (InDo blocks) line) job (done ++ line ∷ []) s (checks.after_line before line)) (sym quiet.2)
     (subst (λ b. KnownAt (positions.after (InDo blocks) line) job (done ++ line ∷ []) (more_lines so_far line) b) (sym quiet.3) after)
 
-outside-step : (job done : List Line) (so_far : TaskSoFar) (before : Before) (line : Line) → IsTrue (may_stand Outside line) → KnownInTask job so_far before → KnownAt (positions.after Outside line) job (done ++ line ∷ []) (so_far_after so_far line) (checks.after_line before line)
-outside-step job done so_far before (line.Note text) stands k = task-quiet job so_far before (line.Note text) refl refl k
-outside-step job done so_far before (line.Task name) stands k = opens job before name k.top
-outside-step job done so_far before line stands k = absurd (false≢true stands)
+outside-step : (edition : Edition) (job done : List Line) (so_far : TaskSoFar) (before : Before) (line : Line) → IsTrue (may_stand edition Outside line) → KnownInTask job so_far before → KnownAt (positions.after Outside line) job (done ++ line ∷ []) (so_far_after so_far line) (checks.after_line before line)
+outside-step edition job done so_far before (line.Note text) stands k = task-quiet job so_far before (line.Note text) refl refl k
+outside-step edition job done so_far before (line.Task name) stands k = opens job before name k.top
+outside-step edition job done so_far before line stands k = absurd (false≢true stands)
 
-known-step : (job done rest : List Line) (place : Position) (so_far : TaskSoFar) (before : Before) (line : Line) → job ≡ done ++ line ∷ rest → IsTrue (may_stand place line) → check_line before line ≡ Ok tt → KnownAt place job done so_far before → KnownAt (positions.after place line) job (done ++ line ∷ []) (so_far_after so_far line) (checks.after_line before line)
-known-step job done rest First so_far before line whole stands passes k = top-first job done so_far before line stands k
-known-step job done rest (Top n) so_far before line whole stands passes k = top-step job done rest n so_far before line whole stands passes k
-known-step job done rest InTask so_far before line whole stands passes k = task-step job done so_far before line stands passes k
-known-step job done rest (InDo blocks) so_far before line whole stands passes k = do-step job done blocks so_far before line stands k
-known-step job done rest Outside so_far before line whole stands passes k = outside-step job done so_far before line stands k
+known-step : (edition : Edition) (job done rest : List Line) (place : Position) (so_far : TaskSoFar) (before : Before) (line : Line) → job ≡ done ++ line ∷ rest → IsTrue (may_stand edition place line) → check_line before line ≡ Ok tt → KnownAt place job done so_far before → KnownAt (positions.after place line) job (done ++ line ∷ []) (so_far_after so_far line) (checks.after_line before line)
+known-step edition job done rest First so_far before line whole stands passes k = top-first edition job done so_far before line stands k
+known-step edition job done rest (Top n) so_far before line whole stands passes k = top-step edition job done rest n so_far before line whole stands passes k
+known-step edition job done rest InTask so_far before line whole stands passes k = task-step edition job done so_far before line stands passes k
+known-step edition job done rest (InDo blocks) so_far before line whole stands passes k = do-step edition job done blocks so_far before line stands k
+known-step edition job done rest Outside so_far before line whole stands passes k = outside-step edition job done so_far before line stands k
 
 -- what is known after some lines of a job
 abbrev pub KnownAfter : List Line → List Line → Type 0
 KnownAfter job done = KnownAt (position_from First done) job done (so_far_from (record { name = []; lines = [] }) done) (before_from before_first_line done)
 
-known-more : (job done rest : List Line) (line : Line) → job ≡ done ++ line ∷ rest → IsTrue (may_stand (position_from First done) line) → check_line (before_from before_first_line done) line ≡ Ok tt → KnownAfter job done → KnownAfter job (done ++ line ∷ [])
-known-more job done rest line whole stands passes k =
+known-more : (edition : Edition) (job done rest : List Line) (line : Line) → job ≡ done ++ line ∷ rest → IsTrue (may_stand edition (position_from First done) line) → check_line (before_from before_first_line done) line ≡ Ok tt → KnownAfter job done → KnownAfter job (done ++ line ∷ [])
+known-more edition job done rest line whole stands passes k =
     let start : TaskSoFar = record { name = []; lines = [] } in
-    let next = known-step job done rest (position_from First done) (so_far_from start done) (before_from before_first_line done) line whole stands passes k in
+    let next = known-step edition job done rest (position_from First done) (so_far_from start done) (before_from before_first_line done) line whole stands passes k in
     let all = done ++ line ∷ [] in
     subst (λ p. KnownAt p job all (so_far_from start all) (before_from before_first_line all)) (sym (place-push First done line))
     (subst (λ s. KnownAt (positions.after (position_from First done) line) job all s (before_from before_first_line all)) (sym (so_far-push start done line))
     (subst (λ b. KnownAt (positions.after (position_from First done) line) job all (so_far_after (so_far_from start done) line) b) (sym (before-push before_first_line done line)) next))
 
 -- what is known at each line of a job that passes the check
-pub known-at : (job : List Line) → IsPlaced First job → Passes before_first_line job → (i : ℕ) → KnownAfter job (take i job)
+pub known-at : (job : List Line) → IsPlaced (edition_of job) First job → Passes before_first_line job → (i : ℕ) → KnownAfter job (take i job)
 known-at job placed passes =
     along job (λ i. KnownAfter job (take i job)) (record { no_task = refl; all = λ rest. refl; top = λ name. refl })
     (λ i past k. subst (KnownAfter job) (sym (take-past job i past)) k)
     (λ i line is k.
     let at = line-at job i line placed passes is in
     let whole : job ≡ take i job ++ line ∷ drop (i + 1) job = sym (take-append-drop i job) ∙ ap (λ ls. take i job ++ ls) (drop_next job i line is) in
-    subst (KnownAfter job) (sym (take_next job i line is)) (known-more job (take i job) (drop (i + 1) job) line whole at.stands at.passes k))
+    subst (KnownAfter job) (sym (take_next job i line is)) (known-more (edition_of job) job (take i job) (drop (i + 1) job) line whole at.stands at.passes k))

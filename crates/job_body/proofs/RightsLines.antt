@@ -6,13 +6,14 @@ use Rattle.std.specs.List.{position_or_len}
 use Rattle.swan_model.specs.declared.rights.Mode.{Mode}
 use Rattle.swan_model.specs.declared.value.Kind.TheVariants as kind
 use Rattle.job_reader.specs.Faults.{◌>>=◌}
-use Rattle.job_reader.specs.Jobs.{IsPlaced, may_stand}
+use Rattle.job_reader.specs.Jobs.{IsPlaced, edition_of, may_stand}
 use Rattle.job_reader.specs.Positions as positions
 use Rattle.job_reader.specs.Positions.{is_open}
 use Rattle.job_reader.specs.declared.atom.Atom.{Atom}
 use Rattle.job_reader.specs.declared.block.Block.{Block}
 use Rattle.job_reader.specs.declared.fault.JobKind.{JobKind}
 use Rattle.job_reader.specs.declared.fault.JobKind.TheVariants as fault
+use Rattle.job_reader.specs.declared.line.Edition.{Edition}
 use Rattle.job_reader.specs.declared.line.Line.{Line}
 use Rattle.job_reader.specs.declared.line.Line.TheVariants as line
 use Rattle.job_reader.specs.declared.position.Position.{Position}
@@ -41,6 +42,7 @@ is_statement (line.Pop v q) = true
 is_statement (line.Empty v q) = true
 is_statement (line.Spawn fuel task args) = true
 is_statement line.Sync = true
+is_statement (line.Caught v) = true
 is_statement (line.Fuel v) = true
 is_statement (line.Fail a) = true
 is_statement (line.If a) = true
@@ -50,19 +52,19 @@ is_statement line.End = true
 is_statement _ = false
 
 -- a statement of a task stands after its `do`
-pub in-do : (place : Position) (line : Line) → is_open place ≡ true → may_stand place line ≡ true → is_statement line ≡ true → (inside : List Block) × (place ≡ InDo inside)
-in-do First line within stands e = absurd (false≢true within)
-in-do (Top n) line within stands e = absurd (false≢true within)
-in-do Outside line within stands e = absurd (false≢true within)
-in-do (InDo inside) line within stands e = (inside, refl)
-in-do InTask (line.Note text) within stands e = absurd (false≢true e)
-in-do InTask (line.Param name k) within stands e = absurd (false≢true e)
-in-do InTask (line.Access mode name k) within stands e = absurd (false≢true e)
-in-do InTask (line.Var name k) within stands e = absurd (false≢true e)
-in-do InTask (line.Queue name k) within stands e = absurd (false≢true e)
-in-do InTask (line.Object name k) within stands e = absurd (false≢true e)
-in-do InTask line.Do within stands e = absurd (false≢true e)
-in-do InTask line within stands e = absurd (false≢true stands)
+pub in-do : (edition : Edition) (place : Position) (line : Line) → is_open place ≡ true → may_stand edition place line ≡ true → is_statement line ≡ true → (inside : List Block) × (place ≡ InDo inside)
+in-do edition First line within stands e = absurd (false≢true within)
+in-do edition (Top n) line within stands e = absurd (false≢true within)
+in-do edition Outside line within stands e = absurd (false≢true within)
+in-do edition (InDo inside) line within stands e = (inside, refl)
+in-do edition InTask (line.Note text) within stands e = absurd (false≢true e)
+in-do edition InTask (line.Param name k) within stands e = absurd (false≢true e)
+in-do edition InTask (line.Access mode name k) within stands e = absurd (false≢true e)
+in-do edition InTask (line.Var name k) within stands e = absurd (false≢true e)
+in-do edition InTask (line.Queue name k) within stands e = absurd (false≢true e)
+in-do edition InTask (line.Object name k) within stands e = absurd (false≢true e)
+in-do edition InTask line.Do within stands e = absurd (false≢true e)
+in-do edition InTask line within stands e = absurd (false≢true stands)
 
 -- ---- after `do` a task takes nothing more
 
@@ -80,16 +82,16 @@ past-statement [] line.End = refl
 past-statement (innermost ∷ inside) line.End = refl
 past-statement inside line = refl
 
-past-line : (place : Position) (line : Line) → is_past place ≡ true → may_stand place line ≡ true → (access_entry line ≡ []) × (meaning_of line ≡ [])
-past-line First line past stands = absurd (false≢true past)
-past-line (Top n) line past stands = absurd (false≢true past)
-past-line InTask line past stands = absurd (false≢true past)
-past-line (InDo inside) (line.Param name k) past stands = absurd (false≢true stands)
-past-line (InDo inside) (line.Access mode name k) past stands = absurd (false≢true stands)
-past-line (InDo inside) line past stands = (refl, refl)
-past-line Outside (line.Param name k) past stands = absurd (false≢true stands)
-past-line Outside (line.Access mode name k) past stands = absurd (false≢true stands)
-past-line Outside line past stands = (refl, refl)
+past-line : (edition : Edition) (place : Position) (line : Line) → is_past place ≡ true → may_stand edition place line ≡ true → (access_entry line ≡ []) × (meaning_of line ≡ [])
+past-line edition First line past stands = absurd (false≢true past)
+past-line edition (Top n) line past stands = absurd (false≢true past)
+past-line edition InTask line past stands = absurd (false≢true past)
+past-line edition (InDo inside) (line.Param name k) past stands = absurd (false≢true stands)
+past-line edition (InDo inside) (line.Access mode name k) past stands = absurd (false≢true stands)
+past-line edition (InDo inside) line past stands = (refl, refl)
+past-line edition Outside (line.Param name k) past stands = absurd (false≢true stands)
+past-line edition Outside (line.Access mode name k) past stands = absurd (false≢true stands)
+past-line edition Outside line past stands = (refl, refl)
 
 record TakesNothing (lines : List Line) : Type 0 where
   pub access : flat_map access_entry (before_task lines) ≡ []
@@ -101,17 +103,17 @@ takes-more (line.Param name k) lines none rest = absurd (let e = none.1 in cc)
 takes-more (line.Access mode name k) lines none rest = absurd (let e = none.0 in cc)
 takes-more line lines none rest = record { access = rest.access; meaning = rest.meaning }
 
-takes-nothing : (lines : List Line) (place : Position) → is_past place ≡ true → IsPlaced place lines → TakesNothing lines
-takes-nothing [] place past placed = record { access = refl; meaning = refl }
-takes-nothing (line ∷ lines) First past placed = absurd (false≢true past)
-takes-nothing (line ∷ lines) (Top n) past placed = absurd (false≢true past)
-takes-nothing (line ∷ lines) InTask past placed = absurd (false≢true past)
-takes-nothing (line ∷ lines) (InDo inside) past placed =
-    takes-more line lines (past-line (InDo inside) line past placed.0) (takes-nothing lines (positions.after_statement inside line) (past-statement inside line) placed.1)
-takes-nothing (line.Task name ∷ lines) Outside past placed = record { access = refl; meaning = refl }
-takes-nothing (line.Note text ∷ lines) Outside past placed =
-    takes-more (line.Note text) lines (refl, refl) (takes-nothing lines Outside refl placed.1)
-takes-nothing (line ∷ lines) Outside past placed = absurd (false≢true placed.0)
+takes-nothing : (edition : Edition) (lines : List Line) (place : Position) → is_past place ≡ true → IsPlaced edition place lines → TakesNothing lines
+takes-nothing edition [] place past placed = record { access = refl; meaning = refl }
+takes-nothing edition (line ∷ lines) First past placed = absurd (false≢true past)
+takes-nothing edition (line ∷ lines) (Top n) past placed = absurd (false≢true past)
+takes-nothing edition (line ∷ lines) InTask past placed = absurd (false≢true past)
+takes-nothing edition (line ∷ lines) (InDo inside) past placed =
+    takes-more line lines (past-line edition (InDo inside) line past placed.0) (takes-nothing edition lines (positions.after_statement inside line) (past-statement inside line) placed.1)
+takes-nothing edition (line.Task name ∷ lines) Outside past placed = record { access = refl; meaning = refl }
+takes-nothing edition (line.Note text ∷ lines) Outside past placed =
+    takes-more (line.Note text) lines (refl, refl) (takes-nothing edition lines Outside refl placed.1)
+takes-nothing edition (line ∷ lines) Outside past placed = absurd (false≢true placed.0)
 
 -- ---- a statement
 
@@ -130,11 +132,11 @@ held-statement job i none =
     ap (λ es. roots_held job so_far.name ++ ((flat_map access_entry so_far.lines ++ es) ++ flat_map made_entry so_far.lines)) none
     ∙ ap (λ es. roots_held job so_far.name ++ (es ++ flat_map made_entry so_far.lines)) (append-nil (flat_map access_entry so_far.lines))
 
-pub statement-at : (job : List Line) → IsPlaced First job → Passes before_first_line job → (i : ℕ) (line : Line) (held : List Mode) → slice_get job i ≡ Some line → Stands job i held → is_statement line ≡ true → IsStatementAt job i held
+pub statement-at : (job : List Line) → IsPlaced (edition_of job) First job → Passes before_first_line job → (i : ℕ) (line : Line) (held : List Mode) → slice_get job i ≡ Some line → Stands job i held → is_statement line ≡ true → IsStatementAt job i held
 statement-at job placed passes i line held is at e =
-    let doing = in-do (position_at job i) line at.within (stands_here job i line placed is) e in
-    let here : IsPlaced (InDo doing.0) (drop i job) = subst (λ p. IsPlaced p (drop i job)) doing.1 (placed-from First job i placed) in
-    let nothing = takes-nothing (drop i job) (InDo doing.0) refl here in
+    let doing = in-do (edition_of job) (position_at job i) line at.within (stands_here job i line placed is) e in
+    let here : IsPlaced (edition_of job) (InDo doing.0) (drop i job) = subst (λ p. IsPlaced (edition_of job) p (drop i job)) doing.1 (placed-from (edition_of job) First job i placed) in
+    let nothing = takes-nothing (edition_of job) (drop i job) (InDo doing.0) refl here in
     let known_here : KnownInTask job (so_far_at job i) (before_at job i) = subst (λ p. KnownAt p job (take i job) (so_far_at job i) (before_at job i)) doing.1 (known-at job placed passes i) in
     record {
       inside = doing.0;
@@ -211,19 +213,19 @@ spawn-passes before fuel task args e =
 
 -- ---- where a task begins
 
-opens-task : (place : Position) (name : List ℕ) → may_stand place (line.Task name) ≡ true → positions.after place (line.Task name) ≡ InTask
-opens-task First name stands = absurd (false≢true stands)
-opens-task (Top n) name stands = refl
-opens-task InTask name stands = absurd (false≢true stands)
-opens-task (InDo inside) name stands = absurd (false≢true stands)
-opens-task Outside name stands = refl
+opens-task : (edition : Edition) (place : Position) (name : List ℕ) → may_stand edition place (line.Task name) ≡ true → positions.after place (line.Task name) ≡ InTask
+opens-task edition First name stands = absurd (false≢true stands)
+opens-task edition (Top n) name stands = refl
+opens-task edition InTask name stands = absurd (false≢true stands)
+opens-task edition (InDo inside) name stands = absurd (false≢true stands)
+opens-task edition Outside name stands = refl
 
 -- a task begins with what the top level lends it and with what it takes
-pub task-stands : (job : List Line) → IsPlaced First job → (index : ℕ) (name : List ℕ) (taken : List Declaration) → IsTaskAt job index name taken → Stands job (index + 1) (modes (roots_held job name) ++ held_modes taken)
+pub task-stands : (job : List Line) → IsPlaced (edition_of job) First job → (index : ℕ) (name : List ℕ) (taken : List Declaration) → IsTaskAt job index name taken → Stands job (index + 1) (modes (roots_held job name) ++ held_modes taken)
 task-stands job placed index name taken at =
     let opened : TaskSoFar = record { name = name; lines = [] } in
     let within : position_at job (index + 1) ≡ InTask =
-    place-next job index (line.Task name) at.at ∙ opens-task (position_at job index) name (stands_here job index (line.Task name) placed at.at) in
+    place-next job index (line.Task name) at.at ∙ opens-task (edition_of job) (position_at job index) name (stands_here job index (line.Task name) placed at.at) in
     let access = flat_map access_entry (before_task (drop (index + 1) job)) in
     let here : held_at job (index + 1) ≡ roots_held job name ++ access =
     ap (λ so_far. held_with job so_far (drop (index + 1) job)) (so_far-next job index (line.Task name) at.at)
@@ -235,6 +237,6 @@ task-stands job placed index name taken at =
     }
 
 -- a child begins with what its task takes
-pub child-stands : (job : List Line) → IsPlaced First job → (index : ℕ) (name : List ℕ) (taken : List Declaration) → is_main name ≡ false → IsTaskAt job index name taken → Stands job (index + 1) (held_modes taken)
+pub child-stands : (job : List Line) → IsPlaced (edition_of job) First job → (index : ℕ) (name : List ℕ) (taken : List Declaration) → is_main name ≡ false → IsTaskAt job index name taken → Stands job (index + 1) (held_modes taken)
 child-stands job placed index name taken other at =
     subst (λ b. Stands job (index + 1) (modes (if b then root_entries (top_lines job) else []) ++ held_modes taken)) other (task-stands job placed index name taken at)

@@ -1,7 +1,8 @@
 -- Where the lines of a job stand, and what the lines before each of them say.
 use Rattle.std.proofs.Common.{◌≡◌, ℕ, zero, suc, ◌+◌, Option, Some, None, Ok, List, [], ◌∷◌, ◌++◌, take, drop, slice_get, IsTrue, refl, ap, ◌∙◌, subst, add-one, take_all, arith, sym}
-use Rattle.job_reader.specs.Jobs.{IsPlaced, may_stand}
+use Rattle.job_reader.specs.Jobs.{IsPlaced, edition_of, may_stand}
 use Rattle.job_reader.specs.Positions as positions
+use Rattle.job_reader.specs.declared.line.Edition.{Edition}
 use Rattle.job_reader.specs.declared.line.Line.{Line}
 use Rattle.job_reader.specs.declared.position.Position.{Position}
 use Rattle.job_reader.specs.declared.position.Position.TheVariants.{First}
@@ -35,7 +36,7 @@ Passes before (line ∷ lines) = (check_line before line ≡ Ok tt) × Passes (c
 
 -- what is known of the line at an index
 pub record IsLineAt (job : List Line) (i : ℕ) (line : Line) : Type 0 where
-  pub stands : IsTrue (may_stand (position_at job i) line)
+  pub stands : IsTrue (may_stand (edition_of job) (position_at job i) line)
   pub passes : check_line (before_at job i) line ≡ Ok tt
 
 -- ---- one line more
@@ -69,20 +70,20 @@ along job P first past more (suc i) = rw⁻¹ add-one (go (slice_get job i) refl
 
 -- ---- the rest of a job
 
-pub placed-from : (place : Position) (lines : List Line) (i : ℕ) → IsPlaced place lines → IsPlaced (position_from place (take i lines)) (drop i lines)
-placed-from place lines zero placed = placed
-placed-from place [] (suc i) placed = placed
-placed-from place (line ∷ lines) (suc i) placed = placed-from (positions.after place line) lines i placed.1
+pub placed-from : (edition : Edition) (place : Position) (lines : List Line) (i : ℕ) → IsPlaced edition place lines → IsPlaced edition (position_from place (take i lines)) (drop i lines)
+placed-from edition place lines zero placed = placed
+placed-from edition place [] (suc i) placed = placed
+placed-from edition place (line ∷ lines) (suc i) placed = placed-from edition (positions.after place line) lines i placed.1
 
 pub passes-from : (before : Before) (lines : List Line) (i : ℕ) → Passes before lines → Passes (before_from before (take i lines)) (drop i lines)
 passes-from before lines zero passes = passes
 passes-from before [] (suc i) passes = tt
 passes-from before (line ∷ lines) (suc i) passes = passes-from (checks.after_line before line) lines i passes.1
 
-pub line-at : (job : List Line) (i : ℕ) (line : Line) → IsPlaced First job → Passes before_first_line job → slice_get job i ≡ Some line → IsLineAt job i line
+pub line-at : (job : List Line) (i : ℕ) (line : Line) → IsPlaced (edition_of job) First job → Passes before_first_line job → slice_get job i ≡ Some line → IsLineAt job i line
 line-at job i line placed passes h =
     let next = drop_next job i line h in
     record {
-      stands = (subst (IsPlaced (position_at job i)) next (placed-from First job i placed)).0;
+      stands = (subst (IsPlaced (edition_of job) (position_at job i)) next (placed-from (edition_of job) First job i placed)).0;
       passes = (subst (Passes (before_at job i)) next (passes-from before_first_line job i passes)).0;
     }

@@ -7,8 +7,8 @@ use Rattle.swan_model.specs.declared.rights.Mode.TheVariants.{InOut, Push, Pop}
 use Rattle.swan_model.specs.declared.value.Value.{Value}
 use Rattle.swan_model.specs.Elision.{first_store, object_holdings, queue_holdings, root, root_holdings, serial}
 use Rattle.swan_model.specs.SerialState.{Activation, Holding, State, Store}
-use Rattle.swan_model.specs.SerialStep.{Effect, goes_on, spawns, ends, faults, state_after, effect, effect_of, after_next, step_on}
-use Rattle.job_reader.specs.Jobs.{IsJob, IsPlaced}
+use Rattle.swan_model.specs.SerialStep.{Effect, goes_on, spawns, ends, faults, state_after, effect, effect_of, after_next, step_on, with_failed}
+use Rattle.job_reader.specs.Jobs.{IsJob, IsPlaced, edition_of}
 use Rattle.job_reader.specs.declared.line.Line.{Line}
 use Rattle.job_reader.specs.declared.line.Line.TheVariants as line
 use Rattle.job_reader.specs.declared.position.Position.TheVariants.{First}
@@ -34,7 +34,7 @@ use Rattle.swan_model.proofs.RootLists.{length-first_queues, length-first_cells}
 
 -- ---- a step
 
-top-fits : (job : List Line) → IsPlaced First job → Passes before_first_line job → (n : ℕ) (store : Store) (top : Activation Standing) → FitsStore job store top → EffectFits job store (effect_of ghosts job n store top)
+top-fits : (job : List Line) → IsPlaced (edition_of job) First job → Passes before_first_line job → (n : ℕ) (store : Store) (top : Activation Standing) → FitsStore job store top → EffectFits job store (effect_of ghosts job n store top)
 top-fits job placed passes n store top fits = fuelled (nat_eq top.fuel 0) where
   s : Standing
   s = steps.after_answer job top.local top.answer
@@ -58,6 +58,10 @@ each-grown : (job : List Line) (before after : Store) (stack : List (Activation 
 each-grown job before after [] grows fits = tt
 each-grown job before after (a ∷ below) grows fits = (fits-grown job before after a grows fits.0, each-grown job before after below grows fits.1)
 
+each-failed : (job : List Line) (store : Store) (stack : List (Activation Standing)) → EachFits job store stack → EachFits job store (with_failed stack)
+each-failed job store [] fits = tt
+each-failed job store (a ∷ below) fits = (record { stands = fits.0.stands; stored = fits.0.stored }, fits.1)
+
 record KeepsTo (job : List Line) (s : State Standing) : Type 0 where
   pub stack : EachFits job s.store s.stack
   pub faults : All IsNotOfRights s.faults
@@ -69,9 +73,9 @@ after-keeps job s below path place (spawns parent child store) fits each booked 
     record { stack = (fits.2, (fits.1, each-grown job s.store store below fits.0 each)); faults = booked }
 after-keeps job s below path place ends fits each booked = record { stack = each; faults = booked }
 after-keeps job s below path place (faults kind) fits each booked =
-    record { stack = each; faults = All-push IsNotOfRights s.faults (record { path = path; place = place; kind = kind }) booked fits }
+    record { stack = each-failed job s.store below each; faults = All-push IsNotOfRights s.faults (record { path = path; place = place; kind = kind }) booked fits }
 
-step_on-keeps : (job : List Line) → IsPlaced First job → Passes before_first_line job → (s : State Standing) (stack : List (Activation Standing)) → EachFits job s.store stack → KeepsTo job s → KeepsTo job (step_on ghosts job s stack)
+step_on-keeps : (job : List Line) → IsPlaced (edition_of job) First job → Passes before_first_line job → (s : State Standing) (stack : List (Activation Standing)) → EachFits job s.store stack → KeepsTo job s → KeepsTo job (step_on ghosts job s stack)
 step_on-keeps job placed passes s [] each keeps = keeps
 step_on-keeps job placed passes s (top ∷ below) each keeps =
     after-keeps job s below top.path _ _ (top-fits job placed passes s.steps s.store top each.0) each.1 keeps.faults
@@ -117,7 +121,7 @@ main-at job faultless passes =
     let is : found job (codes "main") ≡ Some main.0 = sym (learnt before_first_line job (codes "main") passes refl) ∙ main.1 in
     subst (IsTaskAt job (task_index job (codes "main")) (codes "main")) (main-found job before_first_line main.0 passes is) (task-found job (codes "main") main.0 is)
 
-root-fits : (job : List Line) (texts : List (List ℕ)) (fuel : ℕ) → IsPlaced First job → first_fault job ≡ None → Passes before_first_line job → let plan = plan_of_job job texts fuel in FitsStore job (first_store plan.roots) (root plan)
+root-fits : (job : List Line) (texts : List (List ℕ)) (fuel : ℕ) → IsPlaced (edition_of job) First job → first_fault job ≡ None → Passes before_first_line job → let plan = plan_of_job job texts fuel in FitsStore job (first_store plan.roots) (root plan)
 root-fits job texts fuel placed faultless passes =
     let top = top_lines job in
     let index = task_index job (codes "main") in
@@ -133,7 +137,7 @@ root-fits job texts fuel placed faultless passes =
 
 -- ---- the elision
 
-serial-keeps : (job : List Line) (texts : List (List ℕ)) (fuel : ℕ) → IsPlaced First job → first_fault job ≡ None → Passes before_first_line job → (n : ℕ) → KeepsTo job (serial ghosts (plan_of_job job texts fuel) n)
+serial-keeps : (job : List Line) (texts : List (List ℕ)) (fuel : ℕ) → IsPlaced (edition_of job) First job → first_fault job ≡ None → Passes before_first_line job → (n : ℕ) → KeepsTo job (serial ghosts (plan_of_job job texts fuel) n)
 serial-keeps job texts fuel placed faultless passes zero =
     record { stack = (root-fits job texts fuel placed faultless passes, tt); faults = λ k d less. absurd (omega (arith, less)) }
 serial-keeps job texts fuel placed faultless passes (suc n) =

@@ -3,9 +3,10 @@ use Rattle.std.proofs.Common.{◌≡◌, ℕ, ◌+◌, Bool, true, false, Some, 
 use Rattle.std.proofs.lemmas.Bool.{false≢true, true≢false}
 use Rattle.std.proofs.lemmas.List.{append-nil, map-append}
 use Rattle.swan_model.specs.declared.rights.Mode.{Mode}
-use Rattle.job_reader.specs.Jobs.{IsPlaced, may_stand}
+use Rattle.job_reader.specs.Jobs.{IsPlaced, edition_of, may_stand}
 use Rattle.job_reader.specs.Positions as positions
 use Rattle.job_reader.specs.Positions.{is_open}
+use Rattle.job_reader.specs.declared.line.Edition.{Edition}
 use Rattle.job_reader.specs.declared.line.Line.{Line}
 use Rattle.job_reader.specs.declared.line.Line.TheVariants as line
 use Rattle.job_reader.specs.declared.position.Position.{Position}
@@ -91,24 +92,24 @@ pub rest_of_drop : {A : Type 0} (xs : List A) (i : ℕ) (x : A) (rest : List A) 
 rest_of_drop xs i x rest e =
     (same_parts x x (drop (i + 1) xs) rest (sym (drop_next xs i x (item_of_drop xs i x rest e)) ∙ e)).1
 
-pub stands_here : (job : List Line) (i : ℕ) (line : Line) → IsPlaced First job → slice_get job i ≡ Some line → may_stand (position_at job i) line ≡ true
+pub stands_here : (job : List Line) (i : ℕ) (line : Line) → IsPlaced (edition_of job) First job → slice_get job i ≡ Some line → may_stand (edition_of job) (position_at job i) line ≡ true
 stands_here job i line placed is =
-    (subst (IsPlaced (position_at job i)) (drop_next job i line is) (placed-from First job i placed)).0
+    (subst (IsPlaced (edition_of job) (position_at job i)) (drop_next job i line is) (placed-from (edition_of job) First job i placed)).0
 
-passes-over : (place : Position) (line : Line) → is_open place ≡ true → may_stand place line ≡ true → is_executed line ≡ false → (is_task line ≡ false) × (made_entry line ≡ []) × (is_open (positions.after place line) ≡ true)
+passes-over : (edition : Edition) (place : Position) (line : Line) → is_open place ≡ true → may_stand edition place line ≡ true → is_executed line ≡ false → (is_task line ≡ false) × (made_entry line ≡ []) × (is_open (positions.after place line) ≡ true)
 unfolding is_executed
-passes-over First line within stands e = absurd (false≢true within)
-passes-over (Top n) line within stands e = absurd (false≢true within)
-passes-over Outside line within stands e = absurd (false≢true within)
-passes-over InTask (line.Note text) within stands e = (refl, refl, refl)
-passes-over InTask (line.Param name k) within stands e = (refl, refl, refl)
-passes-over InTask (line.Access mode name k) within stands e = (refl, refl, refl)
-passes-over InTask (line.Var name k) within stands e = (refl, refl, refl)
-passes-over InTask line.Do within stands e = (refl, refl, refl)
-passes-over (InDo blocks) (line.Note text) within stands e = (refl, refl, refl)
-passes-over place line within stands e = absurd (cc)
+passes-over edition First line within stands e = absurd (false≢true within)
+passes-over edition (Top n) line within stands e = absurd (false≢true within)
+passes-over edition Outside line within stands e = absurd (false≢true within)
+passes-over edition InTask (line.Note text) within stands e = (refl, refl, refl)
+passes-over edition InTask (line.Param name k) within stands e = (refl, refl, refl)
+passes-over edition InTask (line.Access mode name k) within stands e = (refl, refl, refl)
+passes-over edition InTask (line.Var name k) within stands e = (refl, refl, refl)
+passes-over edition InTask line.Do within stands e = (refl, refl, refl)
+passes-over edition (InDo blocks) (line.Note text) within stands e = (refl, refl, refl)
+passes-over edition place line within stands e = absurd (cc)
 
-executed-on : (job : List Line) (held : List Mode) (lines : List Line) (i : ℕ) → IsPlaced First job → drop i job ≡ lines → Stands job i held → Stands job (i + passed_over lines) held
+executed-on : (job : List Line) (held : List Mode) (lines : List Line) (i : ℕ) → IsPlaced (edition_of job) First job → drop i job ≡ lines → Stands job i held → Stands job (i + passed_over lines) held
 executed-on job held [] i placed is at = subst (λ k. Stands job k held) (omega arith) at
 executed-on job held (line ∷ lines) i placed is at = go (is_executed line) refl (executed-on job held lines (i + 1) placed (rest_of_drop job i line lines is)) where
   item : slice_get job i ≡ Some line
@@ -119,10 +120,10 @@ executed-on job held (line ∷ lines) i placed is at = go (is_executed line) ref
       let here : i ≡ i + (if is_executed line then 0 else passed_over lines + 1) = omega arith ∙ ap (λ b. i + (if b then 0 else passed_over lines + 1)) (sym e) in
       subst (λ k. Stands job k held) here at
   go false e later =
-      let over = passes-over (position_at job i) line at.within (stands_here job i line placed item) e in
+      let over = passes-over (edition_of job) (position_at job i) line at.within (stands_here job i line placed item) e in
       let there : i + 1 + passed_over lines ≡ i + (if is_executed line then 0 else passed_over lines + 1) = omega arith ∙ ap (λ b. i + (if b then 0 else passed_over lines + 1)) (sym e) in
       subst (λ k. Stands job k held) there (later (stands-on job i line held item over.0 over.1 over.2 at))
 
 -- the first step from a line on is one where the same is held
-pub stands-executed : (job : List Line) (i : ℕ) (held : List Mode) → IsPlaced First job → Stands job i held → Stands job (executed_from job i) held
+pub stands-executed : (job : List Line) (i : ℕ) (held : List Mode) → IsPlaced (edition_of job) First job → Stands job i held → Stands job (executed_from job i) held
 stands-executed job i held placed at = executed-on job held (drop i job) i placed refl at

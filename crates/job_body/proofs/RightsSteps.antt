@@ -14,13 +14,14 @@ use Rattle.swan_model.specs.SerialState.{Activation, Store}
 use Rattle.swan_model.specs.SerialStep.{effect, after_next}
 use Rattle.swan_model.specs.Values.{zero_of}
 use Rattle.job_reader.specs.Faults.{◌>>=◌}
-use Rattle.job_reader.specs.Jobs.{IsPlaced, may_stand}
+use Rattle.job_reader.specs.Jobs.{IsPlaced, edition_of, may_stand}
 use Rattle.job_reader.specs.Positions as positions
 use Rattle.job_reader.specs.Positions.{is_open}
 use Rattle.job_reader.specs.declared.atom.Atom.{Atom}
 use Rattle.job_reader.specs.declared.block.Block.{Block}
 use Rattle.job_reader.specs.declared.block.Block.TheVariants as block
 use Rattle.job_reader.specs.declared.fault.JobKind.{JobKind}
+use Rattle.job_reader.specs.declared.line.Edition.{Edition}
 use Rattle.job_reader.specs.declared.line.Line.{Line}
 use Rattle.job_reader.specs.declared.line.Line.TheVariants as line
 use Rattle.job_reader.specs.declared.position.Position.{Position}
@@ -52,22 +53,22 @@ abbrev is_closing : Line → Bool
 is_closing line.End = true
 is_closing _ = false
 
-goes-on : (place : Position) (line : Line) → is_open place ≡ true → may_stand place line ≡ true → is_closing line ≡ false → is_open (positions.after place line) ≡ true
-goes-on First line within stands e = absurd (false≢true within)
-goes-on (Top n) line within stands e = absurd (false≢true within)
-goes-on Outside line within stands e = absurd (false≢true within)
-goes-on InTask line.Do within stands e = refl
-goes-on InTask line within stands e = refl
-goes-on (InDo inside) (line.If a) within stands e = refl
-goes-on (InDo inside) (line.While a) within stands e = refl
-goes-on (InDo []) line.Else within stands e = refl
-goes-on (InDo (innermost ∷ inside)) line.Else within stands e = refl
-goes-on (InDo inside) line.End within stands e = absurd (true≢false e)
-goes-on (InDo inside) line within stands e = refl
+goes-on : (edition : Edition) (place : Position) (line : Line) → is_open place ≡ true → may_stand edition place line ≡ true → is_closing line ≡ false → is_open (positions.after place line) ≡ true
+goes-on edition First line within stands e = absurd (false≢true within)
+goes-on edition (Top n) line within stands e = absurd (false≢true within)
+goes-on edition Outside line within stands e = absurd (false≢true within)
+goes-on edition InTask line.Do within stands e = refl
+goes-on edition InTask line within stands e = refl
+goes-on edition (InDo inside) (line.If a) within stands e = refl
+goes-on edition (InDo inside) (line.While a) within stands e = refl
+goes-on edition (InDo []) line.Else within stands e = refl
+goes-on edition (InDo (innermost ∷ inside)) line.Else within stands e = refl
+goes-on edition (InDo inside) line.End within stands e = absurd (true≢false e)
+goes-on edition (InDo inside) line within stands e = refl
 
 -- what is known of a step
 pub record Step (job : List Line) (store : Store) (a : Activation Standing) (s : Standing) (line : Line) : Type 0 where
-  pub placed : IsPlaced First job
+  pub placed : IsPlaced (edition_of job) First job
   pub passes : Passes before_first_line job
   pub is : slice_get job s.at ≡ Some line
   pub stands : Stands job s.at (held_modes_of a.holdings)
@@ -87,7 +88,7 @@ module _ (job : List Line) (store : Store) (a : Activation Standing) (s : Standi
   -- the next line, after a statement that isn't `end`
   next-stands : is_task line ≡ false → made_entry line ≡ [] → is_closing line ≡ false → Stands job (s.at + 1) (held_modes_of a.holdings)
   next-stands plain none e =
-      stands-on job s.at line (held_modes_of a.holdings) step.is plain none (goes-on (position_at job s.at) line step.stands.within at-line.stands e) step.stands
+      stands-on job s.at line (held_modes_of a.holdings) step.is plain none (goes-on (edition_of job) (position_at job s.at) line step.stands.within at-line.stands e) step.stands
 
   on-fits : is_task line ≡ false → made_entry line ≡ [] → is_closing line ≡ false → FitsStore job store (after_next a (steps.after_move_on job s))
   on-fits plain none e = to-fits (s.at + 1) (next-stands plain none e)
@@ -99,7 +100,7 @@ module _ (job : List Line) (store : Store) (a : Activation Standing) (s : Standi
   made-stands : (name : List ℕ) (mode : Mode) → is_task line ≡ false → made_entry line ≡ (name, mode) ∷ [] → is_closing line ≡ false → Stands job (executed_from job (s.at + 1)) (held_modes_of a.holdings ++ mode ∷ [])
   made-stands name mode plain made e =
       stands-executed job (s.at + 1) (held_modes_of a.holdings ++ mode ∷ []) step.placed
-      (stands-made job s.at line (held_modes_of a.holdings) name mode step.is plain made (goes-on (position_at job s.at) line step.stands.within at-line.stands e) step.stands)
+      (stands-made job s.at line (held_modes_of a.holdings) name mode step.is plain made (goes-on (edition_of job) (position_at job s.at) line step.stands.within at-line.stands e) step.stands)
 
   -- a statement
   doing : is_statement line ≡ true → IsStatementAt job s.at (held_modes_of a.holdings)
@@ -184,7 +185,7 @@ after-else (innermost ∷ inside) e = (inside, refl)
 else-fits : (job : List Line) (n : ℕ) (store : Store) (a : Activation Standing) (s : Standing) (step : Step job store a s line.Else) → StepFits job n store a (steps.after_move_to job s (exit_at job s.at).after, ask.Work)
 else-fits job n store a s step =
     let d = doing job store a s line.Else step refl in
-    let may : positions.takes_else d.inside ≡ true = subst (λ p. may_stand p line.Else ≡ true) d.at (at-line job store a s line.Else step).stands in
+    let may : positions.takes_else d.inside ≡ true = subst (λ p. may_stand (edition_of job) p line.Else ≡ true) d.at (at-line job store a s line.Else step).stands in
     let others = after-else d.inside may in
     let out = opens-fits job store a s line.Else step block.Else others.0 refl refl (ap (λ p. positions.after p line.Else) d.at ∙ others.1) in
     work-fits job n store (after_next a (steps.after_move_to job s (exit_at job s.at).after)) (to-fits job store a s line.Else step (exit_at job s.at).after out.1)
@@ -295,6 +296,8 @@ line-fits job n store a s fuel (line.Empty v q) step = empty-step job n store a 
 line-fits job n store a s fuel (line.Spawn c task args) step = spawn-step job n store a s c task args step _
 line-fits job n store a s fuel line.Sync step =
     sync-fits job n store (after_next a (steps.after_move_on job s)) (on-fits job store a s line.Sync step refl refl refl)
+line-fits job n store a s fuel (line.Caught v) step =
+    work-fits job n store _ (variable-fits job store a s (line.Caught v) step v _ refl refl refl)
 line-fits job n store a s fuel (line.Fuel v) step =
     work-fits job n store _ (variable-fits job store a s (line.Fuel v) step v _ refl refl refl)
 line-fits job n store a s fuel (line.Fail c) step = refl

@@ -1,5 +1,5 @@
 -- Steps of work in a row: by the instructions of a program, and so by the lines of its job.
-use Rattle.std.proofs.Common.{◌≡◌, ℕ, zero, suc, ◌<◌, ◌+◌, ◌-◌, ◌∙◌, List, Option, Some, None, IfSome, IfNone, slice_get, ap, sym, subst, refl, arith}
+use Rattle.std.proofs.Common.{◌≡◌, ℕ, zero, suc, ◌<◌, ◌+◌, ◌-◌, ◌∙◌, List, Option, Some, None, IfSome, IfNone, slice_get, ap, ap₂, sym, subst, refl, arith}
 use Rattle.swan_model.specs.declared.body.Answer.{Answer}
 use Rattle.swan_model.specs.declared.body.Answer.TheVariants as answer
 use Rattle.swan_model.specs.declared.body.Ask.{Ask}
@@ -15,7 +15,7 @@ use Rattle.job_body.specs.declared.instruction.Action.TheVariants as action
 use Rattle.job_body.specs.declared.instruction.Instruction.{Instruction}
 use Rattle.job_body.specs.declared.instruction.Work.{Work}
 use Rattle.job_body.specs.Compiled.{program_of}
-use Rattle.job_body.specs.Runs.{values_after_answer, values_after_answer_by, ask_by, done, last_ask, last_of, next_by, run, after_answer_by, worked}
+use Rattle.job_body.specs.Runs.{caught_after_answer, caught_after_answer_by, values_after_answer, values_after_answer_by, ask_by, done, last_ask, last_of, next_by, run, after_answer_by, worked}
 use Rattle.job_body.specs.Standing.{Standing}
 use Rattle.job_body.specs.Steps.{next}
 use Rattle.job_body.proofs.Steps.{next-program}
@@ -29,9 +29,17 @@ by-nothing : (values : List Value) (instruction : Option Instruction) → values
 by-nothing values None = refl
 by-nothing values (Some instruction) = answered-nothing values instruction.action
 
+caught-nothing : (caught : ℕ) (action : Action) → caught_after_answer caught action answer.Nothing ≡ caught
+caught-nothing caught action = grind arith
+
+caught-by-nothing : (caught : ℕ) (instruction : Option Instruction) → caught_after_answer_by caught instruction answer.Nothing ≡ caught
+caught-by-nothing caught None = refl
+caught-by-nothing caught (Some instruction) = caught-nothing caught instruction.action
+
 told-nothing : (program : List Instruction) (s : Standing) → after_answer_by program s answer.Nothing ≡ s
 told-nothing program s =
-    ap {B = Standing} (λ values. record { before = s.before; at = s.at; values = values }) (by-nothing s.values (slice_get program s.before))
+    ap₂ {C = Standing} (λ values caught. record { before = s.before; at = s.at; values = values; caught = caught })
+    (by-nothing s.values (slice_get program s.before)) (caught-by-nothing s.caught (slice_get program s.before))
 
 -- ---- a row of n steps of work, and the step after it
 

@@ -1,5 +1,5 @@
 -- The steps of a program are those of its job.
-use Rattle.std.proofs.Common.{◌≡◌, ℕ, ◌+◌, ◌-◌, ◌^◌, min, Bool, true, false, if◌then◌else◌, arith, drop, Option, Some, None, Result, Ok, Err, List, [], ◌∷◌, map, flat_map, zip, slice_get, option_map, pos, negsuc, ℤ, refl, sym, ap, ◌∙◌}
+use Rattle.std.proofs.Common.{◌≡◌, ℕ, ◌+◌, Bool, true, false, if◌then◌else◌, arith, drop, Option, Some, None, Result, Ok, Err, List, [], ◌∷◌, map, flat_map, zip, slice_get, option_map, pos, negsuc, ℤ, refl, sym, ap, ap₂, ◌∙◌}
 use Rattle.std.proofs.lemmas.List.{drop_all}
 use Rattle.job_reader.specs.declared.atom.Atom.{Atom}
 use Rattle.job_reader.specs.declared.line.Line.{Line}
@@ -133,6 +133,11 @@ assign-is s to fuel op.Or (Some slot) a b c = ints-is s to slot int.Or a b c
 assign-is s to fuel op.Not (Some slot) a b c = ints-is s to slot int.Not a b c
 assign-is s to fuel o (Some slot) a b c = refl
 
+-- ---- lines that set a variable
+
+number-set : (lines : List Line) (s : Standing) (v : List ℕ) (new : Value) → ◌≡◌ {A = Standing × Ask Standing} (runs.after_go_with s (executed_from lines (s.at + 1)) (runs.with_slot s.values (compiled.slot_in (seen_at lines s.at) v) new), ask.Work) (steps.with_variable lines s v new, ask.Work)
+number-set lines s v new = ap (λ values. (runs.after_go_with s (executed_from lines (s.at + 1)) values, ask.Work)) (sym (set-slot (steps.names_at lines s.at) s.values v new))
+
 -- ---- all lines
 
 -- what a line does in the program of its job
@@ -155,7 +160,8 @@ done-line lines s fuel (line.Empty v q) = ap (λ place. (steps.after_move_on lin
 done-line lines s fuel (line.Spawn a task args) =
     spawn-found lines s fuel a (task_index lines task) (task_of_name (tasks_of lines) task) args (begun-named lines task) (task-found lines task)
     ∙ ap (λ value. steps.step_of_spawn lines s (number_of value) (task_index lines task) (zip (takes (lines_of_task lines (task_index lines task))) args)) (sym (value-operand lines s.at s.values a))
-done-line lines s fuel (line.Fuel v) = ap (λ values. (runs.after_go_with s (executed_from lines (s.at + 1)) values, ask.Work)) (sym (set-slot (steps.names_at lines s.at) s.values v (Int (pos (min fuel (2 ^ 63 - 1))))))
+done-line lines s fuel (line.Caught v) = number-set lines s v (steps.counted s.caught)
+done-line lines s fuel (line.Fuel v) = number-set lines s v (steps.counted fuel)
 done-line lines s fuel (line.Fail a) = ap (λ value. (s, ask.Fail (trouble.User (number_of value)))) (sym (value-operand lines s.at s.values a))
 done-line lines s fuel (line.If a) =
     ap (λ n. (runs.after_go s (if is_true (Int n) then executed_from lines (s.at + 1) else executed_from lines (exit_at lines s.at).otherwise), ask.Work)) (number-is s.values (compiled.operand_of (seen_at lines s.at) a))
@@ -194,16 +200,36 @@ answered-line lines s line.End a = answered-end s.values (innermost (blocks_at l
 answered-line lines s (line.Spawn fuel task args) a = answered-spawn lines s.values (seen_at lines s.before) fuel (task_of_name (tasks_of lines) task) args a
 answered-line lines s line a = refl
 
+caught-end : (caught : ℕ) (block : Option BlockWithLine) (a : Answer) → runs.caught_after_answer caught (compiled.end_action block) a ≡ caught
+caught-end caught None a = refl
+caught-end caught (Some block) a = refl
+
+caught-spawn : (lines : List Line) (caught : ℕ) (scope : Scope) (fuel : Atom) (found : Option Task) (args : List Atom) (a : Answer) → runs.caught_after_answer caught (compiled.spawn_action lines scope fuel found args) a ≡ caught
+caught-spawn lines caught scope fuel None args a = refl
+caught-spawn lines caught scope fuel (Some task) args a = refl
+
+caught-line : (lines : List Line) (s : Standing) (line : Line) (a : Answer) → runs.caught_after_answer s.caught (action_of lines (tasks_of lines) (seen_at lines s.before) (exit_at lines s.before) s.before line) a ≡ steps.caught_by s.caught (Some line) a
+caught-line lines s line.End a = caught-end s.caught (innermost (blocks_at lines s.before)) a
+caught-line lines s (line.Spawn fuel task args) a = caught-spawn lines s.caught (seen_at lines s.before) fuel (task_of_name (tasks_of lines) task) args a
+caught-line lines s line.Sync (answer.Caught failed) = refl
+caught-line lines s line.Sync a = refl
+caught-line lines s line a = refl
+
 -- ---- steps
 
 answered-by : (lines : List Line) (s : Standing) (line : Option Line) (a : Answer) → runs.values_after_answer_by s.values (option_map (instruction lines s.before) line) a ≡ steps.received_by lines s line a
 answered-by lines s None a = refl
 answered-by lines s (Some line) a = answered-line lines s line a
 
+caught-by : (lines : List Line) (s : Standing) (line : Option Line) (a : Answer) → runs.caught_after_answer_by s.caught (option_map (instruction lines s.before) line) a ≡ steps.caught_by s.caught line a
+caught-by lines s None a = refl
+caught-by lines s (Some line) a = caught-line lines s line a
+
 told-is : (lines : List Line) (s : Standing) (a : Answer) → runs.after_answer_by (program_of lines) s a ≡ steps.after_answer lines s a
 told-is lines s a =
-    ap (λ values. record { before = s.before; at = s.at; values = values })
+    ap₂ (λ values caught. record { before = s.before; at = s.at; values = values; caught = caught })
     (ap (λ i. runs.values_after_answer_by s.values i a) (instruction-at lines s.before) ∙ answered-by lines s (slice_get lines s.before) a)
+    (ap (λ i. runs.caught_after_answer_by s.caught i a) (instruction-at lines s.before) ∙ caught-by lines s (slice_get lines s.before) a)
 
 run-is : (lines : List Line) (s : Standing) (fuel : ℕ) (line : Option Line) → runs.run (program_of lines) s fuel (option_map (instruction lines s.at) line) ≡ steps.step_at lines s fuel line
 run-is lines s fuel None = refl

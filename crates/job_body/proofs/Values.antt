@@ -1,6 +1,7 @@
 -- Values by the names of variables, and by their slots.
 use Rattle.std.proofs.Common.{◌≡◌, ℕ, zero, suc, ◌+◌, true, false, Option, Some, None, List, [], ◌∷◌, length, map, flat_map, bytes_eq, option_map, if◌then◌else◌, cond, not, pos, refl, ap, ◌∙◌, arith}
 use Rattle.std.specs.List.{position_or_len}
+use Rattle.std.proofs.lemmas.List.{set-set}
 use Rattle.std.specs.Option.{unwrap_or}
 use Rattle.job_reader.specs.declared.atom.Atom.{Atom}
 use Rattle.job_reader.specs.declared.atom.Atom.TheVariants as atom
@@ -56,6 +57,11 @@ set-slot (first ∷ names) (value ∷ values) name new =
       | true ↦ refl
       | false ↦ ap (λ vs. value ∷ vs) (set-slot names values name new) ∙ later_set value values (slot names name) new
     ]
+
+-- a slot that is set twice
+pub set_again : (values : List Value) (slot : Option ℕ) (first new : Value) → runs.with_slot (runs.with_slot values slot first) slot new ≡ runs.with_slot values slot new
+set_again values None first new = refl
+set_again values (Some i) first new = set-set values i first new
 
 -- ---- a place
 

@@ -212,6 +212,7 @@ action_of lines tasks s exit i (line.Pop v q) = action.Demand (demand.Pop (slot_
 action_of lines tasks s exit i (line.Empty v q) = action.Demand (demand.Empty (slot_in s v) (place_in s q))
 action_of lines tasks s exit i (line.Spawn fuel task args) = spawn_action lines s fuel (task_of_name tasks task) args
 action_of lines tasks s exit i line.Sync = action.Demand demand.Sync
+action_of lines tasks s exit i (line.Caught v) = action.Work (work.Caught (slot_in s v))
 action_of lines tasks s exit i (line.Fuel v) = action.Work (work.Fuel (slot_in s v))
 action_of lines tasks s exit i (line.Fail a) = action.Demand (demand.Fail (operand_of s a))
 action_of lines tasks s exit i (line.If a) = branch_of lines s a exit.otherwise

@@ -1,5 +1,5 @@
 -- What a job does. The first eight files are what a reader of the public clauses needs, in this order. By the
--- last four the code's own functions are stated, and no public clause.
+-- last five the code's own functions are stated, and no public clause.
 pub mod Operations
 pub mod Standing
 pub mod Tasks
@@ -12,3 +12,4 @@ pub mod Names
 pub mod Firsts
 pub mod Compiled
 pub mod Runs
+pub mod Slots

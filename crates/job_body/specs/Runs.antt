@@ -1,8 +1,8 @@
 -- What instructions do. The code alone is stated by this, and no public clause.
-use Rattle.std.specs.Prelude.{ℕ, ◌+◌, ◌-◌, ◌^◌, min, ℤ, pos, negsuc, Option, Some, None, Result, Ok, Err, List, ◌++◌, map, slice_get, slice_set, unwrap_or, if◌then◌else◌}
+use Rattle.std.specs.Prelude.{ℕ, ◌+◌, ℤ, pos, negsuc, Option, Some, None, Result, Ok, Err, List, ◌++◌, map, slice_get, slice_set, unwrap_or, if◌then◌else◌}
 use Rattle.job_body.specs.Operations.{flag, is_true, number_of, operation}
 use Rattle.job_body.specs.Standing.{Standing}
-use Rattle.job_body.specs.Steps.{is_kind}
+use Rattle.job_body.specs.Steps.{counted, is_kind}
 use Rattle.job_body.specs.declared.instruction.Action.{Action}
 use Rattle.job_body.specs.declared.instruction.Action.TheVariants as action
 use Rattle.job_body.specs.declared.instruction.Demand.{Demand}
@@ -91,24 +91,38 @@ abbrev pub values_after_answer_by : List Value → Option Instruction → Answer
 values_after_answer_by values None answer = values
 values_after_answer_by values (Some instruction) answer = values_after_answer values instruction.action answer
 
+-- how many children failed, once an answer has come
+abbrev pub caught_after_answer : ℕ → Action → Answer → ℕ
+caught_after_answer caught (action.Demand demand.Sync) (answer.Caught failed) = failed
+caught_after_answer caught _ _ = caught
+
+abbrev pub caught_after_answer_by : ℕ → Option Instruction → Answer → ℕ
+caught_after_answer_by caught None answer = caught
+caught_after_answer_by caught (Some instruction) answer = caught_after_answer caught instruction.action answer
+
 -- the activation at another line
 abbrev pub after_go : Standing → ℕ → Standing
-after_go s to = record { before = s.at; at = to; values = s.values }
+after_go s to = record { before = s.at; at = to; values = s.values; caught = s.caught }
 
 abbrev pub after_go_with : Standing → ℕ → List Value → Standing
-after_go_with s to values = record { before = s.at; at = to; values = values }
+after_go_with s to values = record { before = s.at; at = to; values = values; caught = s.caught }
 
 abbrev pub run_of_assignment : Standing → ℕ → Option ℕ → Result Value Trouble → Standing × Ask Standing
 run_of_assignment s to slot (Ok value) = (after_go_with s to (with_slot s.values slot value), ask.Work)
 run_of_assignment s to slot (Err why) = (s, ask.Fail why)
 
+-- the activation once a slot has the value of an operation, and the trouble that this met, if any
+abbrev pub assigned : Standing → Option ℕ → Result Value Trouble → Standing × Option Trouble
+assigned s slot (Ok value) = (record s { values = with_slot s.values slot value }, None)
+assigned s slot (Err why) = (s, Some why)
+
 -- an activation of the task at an index before its first step
 abbrev pub begun_at : ℕ → List Value → ℕ → Action → Standing
-begun_at index values next (action.Demand (demand.Begin kinds)) = record { before = index; at = next; values = values ++ map zero_of kinds }
-begun_at index values next _ = record { before = index; at = index + 1; values = values }
+begun_at index values next (action.Demand (demand.Begin kinds)) = record { before = index; at = next; values = values ++ map zero_of kinds; caught = 0 }
+begun_at index values next _ = record { before = index; at = index + 1; values = values; caught = 0 }
 
 abbrev pub begun_by : ℕ → List Value → Option Instruction → Standing
-begun_by index values None = record { before = index; at = index + 1; values = values }
+begun_by index values None = record { before = index; at = index + 1; values = values; caught = 0 }
 begun_by index values (Some instruction) = begun_at index values instruction.next instruction.action
 
 abbrev pub begun_in : List Instruction → ℕ → List Value → Standing
@@ -133,7 +147,9 @@ worked s to fuel (work.Ints o slot a b) = run_of_assignment s to (Some slot) (in
 worked s to fuel (work.Branch a otherwise) =
     (after_go s (if is_true (Int (number_in s.values a)) then to else otherwise), ask.Work)
 worked s to fuel (work.Fuel slot) =
-    (after_go_with s to (with_slot s.values slot (Int (pos (min fuel (2 ^ 63 - 1))))), ask.Work)
+    (after_go_with s to (with_slot s.values slot (counted fuel)), ask.Work)
+worked s to fuel (work.Caught slot) =
+    (after_go_with s to (with_slot s.values slot (counted s.caught)), ask.Work)
 
 -- what a demand does that goes on at a line
 abbrev pub demanded : List Instruction → Standing → ℕ → Demand → Standing × Ask Standing
@@ -161,7 +177,8 @@ run program s fuel None = (s, ask.Finish)
 run program s fuel (Some instruction) = done program s instruction.next fuel instruction.action
 
 abbrev pub after_answer_by : List Instruction → Standing → Answer → Standing
-after_answer_by program s answer = record s { values = values_after_answer_by s.values (slice_get program s.before) answer }
+after_answer_by program s answer =
+    record s { values = values_after_answer_by s.values (slice_get program s.before) answer; caught = caught_after_answer_by s.caught (slice_get program s.before) answer }
 
 -- the step of a program
 abbrev pub next_by : List Instruction → Standing → Answer → ℕ → Standing × Ask Standing

@@ -1,4 +1,4 @@
--- Where an activation of a job stands, and the values of its variables.
+-- Where an activation of a job stands, the values of its variables, and what its last sync told it.
 use Rattle.std.specs.Prelude.{ℕ, List}
 use Rattle.swan_model.specs.declared.value.Value.{Value}
 
@@ -9,3 +9,5 @@ pub record Standing : Type 0 where
   pub at : ℕ
   -- the values of its variables, by the order in which its task names them
   pub values : List Value
+  -- how many children failed that its last `sync` waited for; 0 before the first one
+  pub caught : ℕ

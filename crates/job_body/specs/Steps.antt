@@ -77,12 +77,18 @@ received_by lines s (Some (line.Pop v q)) (answer.Item value) = received lines s
 received_by lines s (Some (line.Empty v q)) (answer.Flag is_empty) = received lines s v (flag is_empty)
 received_by lines s _ _ = s.values
 
+-- how many children failed, once an answer to the last ask has come
+abbrev pub caught_by : ℕ → Option Line → Answer → ℕ
+caught_by caught (Some line.Sync) (answer.Caught failed) = failed
+caught_by caught _ _ = caught
+
 abbrev pub after_answer : List Line → Standing → Answer → Standing
-after_answer lines s answer = record s { values = received_by lines s (slice_get lines s.before) answer }
+after_answer lines s answer =
+    record s { values = received_by lines s (slice_get lines s.before) answer; caught = caught_by s.caught (slice_get lines s.before) answer }
 
 -- the activation once it has moved on to the first step from this line on
 abbrev pub after_move_to : List Line → Standing → ℕ → Standing
-after_move_to lines s to = record { before = s.at; at = executed_from lines to; values = s.values }
+after_move_to lines s to = record { before = s.at; at = executed_from lines to; values = s.values; caught = s.caught }
 
 abbrev pub after_move_on : List Line → Standing → Standing
 after_move_on lines s = after_move_to lines s (s.at + 1)
@@ -90,7 +96,7 @@ after_move_on lines s = after_move_to lines s (s.at + 1)
 -- the activation once a variable has a new value and it has moved on
 abbrev pub with_variable : List Line → Standing → List ℕ → Value → Standing
 with_variable lines s name new =
-    record { before = s.at; at = executed_from lines (s.at + 1); values = values_with (names_at lines s.at) s.values name new }
+    record { before = s.at; at = executed_from lines (s.at + 1); values = values_with (names_at lines s.at) s.values name new; caught = s.caught }
 
 -- an assignment, by what its operation gives
 abbrev pub step_of_assignment : List Line → Standing → List ℕ → Result Value Trouble → Standing × Ask Standing
@@ -117,7 +123,7 @@ access_given lines s _ = []
 -- an activation of the task at this index before its first step, by the values of its `param` lines
 abbrev pub begun : List Line → ℕ → List Value → Standing
 begun lines index values =
-    record { before = index; at = executed_from lines (index + 1); values = values ++ zeros (lines_of_task lines index) }
+    record { before = index; at = executed_from lines (index + 1); values = values ++ zeros (lines_of_task lines index); caught = 0 }
 
 -- a spawn, by its fuel, by the index of its task, and by what the task is given
 abbrev pub step_of_spawn : List Line → Standing → ℤ → ℕ → List (Take × Atom) → Standing × Ask Standing
@@ -131,8 +137,11 @@ ended lines s [] = (s, ask.Finish)
 ended lines s (opened.If ∷ blocks) = (after_move_on lines s, ask.Work)
 ended lines s (opened.While i ∷ blocks) = (after_move_to lines s i, ask.Work)
 
--- The step of a line. The number is the fuel that is left after the step's own unit. It is a number of
--- the language, since a run has less fuel than a number can say.
+-- a count as a number of the language; a run has less fuel and fewer children than a number can say
+abbrev pub counted : ℕ → Value
+counted n = Int (pos (min n (2 ^ 63 - 1)))
+
+-- The step of a line. The number is the fuel that is left after the step's own unit.
 abbrev pub step : List Line → Standing → ℕ → Line → Standing × Ask Standing
 step lines s fuel (line.Queue name kind) = (after_move_on lines s, ask.NewQueue)
 step lines s fuel (line.Object name kind) = (after_move_on lines s, ask.NewObject (zero_of kind))
@@ -147,7 +156,8 @@ step lines s fuel (line.Spawn a task args) =
     step_of_spawn lines s (number_of (value_at lines s.at s.values a)) (task_index lines task)
     (zip (takes (lines_of_task lines (task_index lines task))) args)
 step lines s fuel line.Sync = (after_move_on lines s, ask.Sync)
-step lines s fuel (line.Fuel v) = (with_variable lines s v (Int (pos (min fuel (2 ^ 63 - 1)))), ask.Work)
+step lines s fuel (line.Caught v) = (with_variable lines s v (counted s.caught), ask.Work)
+step lines s fuel (line.Fuel v) = (with_variable lines s v (counted fuel), ask.Work)
 step lines s fuel (line.Fail a) = (s, ask.Fail (trouble.User (number_of (value_at lines s.at s.values a))))
 step lines s fuel (line.If a) =
     ((if is_true (value_at lines s.at s.values a) then after_move_on lines s else after_move_to lines s (exit_at lines s.at).otherwise), ask.Work)

@@ -2,7 +2,7 @@
 use Rattle.std.specs.Prelude.{ℕ, ◌+◌, Bool, true, false, List, [], ◌∷◌, ◌++◌, drop, flat_map, map, take, bytes_eq, if◌then◌else◌}
 use Rattle.std.specs.List.{position_or_len}
 use Rattle.job_reader.specs.declared.line.Line.{Line}
-use Rattle.job_reader.specs.declared.line.Line.TheVariants.{Input, Output, Object, Task, Param, Access, Var, Queue, Assign, Read, Write, Push, Pop, Empty, Spawn, Sync, Fuel, Fail, If, Else, While, End}
+use Rattle.job_reader.specs.declared.line.Line.TheVariants.{Input, Output, Object, Task, Param, Access, Var, Queue, Assign, Read, Write, Push, Pop, Empty, Spawn, Sync, Caught, Fuel, Fail, If, Else, While, End}
 use Rattle.swan_model.specs.declared.value.Kind.{Kind}
 use Rattle.swan_model.specs.declared.value.Value.{Value}
 use Rattle.privilege_check.specs.Names.{is_main}
@@ -23,6 +23,7 @@ is_executed (Pop v q) = true
 is_executed (Empty v q) = true
 is_executed (Spawn fuel task args) = true
 is_executed Sync = true
+is_executed (Caught v) = true
 is_executed (Fuel v) = true
 is_executed (Fail a) = true
 is_executed (If a) = true

@@ -244,6 +244,7 @@ fn action_of(
             args,
         ),
         Line::Sync => Ok(Action::Demand(Demand::Sync)),
+        Line::Caught(v) => Ok(Action::Work(Work::Caught(scope.slot(v)))),
         Line::Fuel(v) => Ok(Action::Work(Work::Fuel(scope.slot(v)))),
         Line::Fail(a) => Ok(Action::Demand(Demand::Fail(scope.operand(a)?))),
         Line::If(a) => branch_of(job, scope, a, exit.otherwise),

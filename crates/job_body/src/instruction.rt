@@ -60,6 +60,8 @@ pub enum Work {
     Go,
     /// It sets a slot to the value of an operation.
     Assign(Option<u32>, Op, Operand, Operand, Operand),
+    /// It sets a slot to the number of children that failed, by the last sync.
+    Caught(Option<u32>),
     /// It sets a slot to the fuel that is left.
     Fuel(Option<u32>),
 }

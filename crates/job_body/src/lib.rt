@@ -20,6 +20,7 @@
 #![tactic(auto)]
 
 mod answer;
+mod assignment;
 mod block;
 mod body;
 mod compile;
@@ -32,11 +33,11 @@ mod local;
 mod name_table;
 mod names;
 mod operation;
-mod outcome;
 mod plan;
 mod roots;
 mod run;
 mod scope;
+mod slot;
 mod source;
 mod take;
 mod task_index;

@@ -1,16 +1,19 @@
 // Locals of activations.
 use crate::instruction::{Action, Demand, Num, Operand};
-use crate::operation::{flag, make_int, number_of};
+use crate::operation::{flag, joined, part, part_of_none};
+use crate::slot::Slot;
+use std::alloc::Global;
 use std::marker::Model;
-use swan_model::{Answer, Kind, NoMemory, Record, Value};
+use swan_model::{Answer, Kind, NoMemory, Trouble, Value};
 
-/// What an activation of a job keeps between its steps: where it stands, and the values of its
-/// variables. Contracts see it as a standing of the definitions.
+/// What an activation of a job keeps between its steps: where it stands, the values of its variables,
+/// and how many children failed by its last sync. Contracts see it as a standing of the definitions.
 #[derive(Drop)]
 pub struct JobLocal {
     before: u32,
     at: u32,
-    values: Vec<Value>,
+    values: Vec<Slot>,
+    caught: u64,
 }
 
 impl Model for JobLocal {
@@ -18,23 +21,29 @@ impl Model for JobLocal {
 
     ghost Value = { Standing };
 
-    ghost view = { λ local. record { before = local.before; at = local.at; values = local.values.items } };
+    ghost view = { λ local. record { before = local.before; at = local.at; values = local.values.items; caught = local.caught } };
 }
 
 impl JobLocal {
-    ghost use Rattle.std.specs.Prelude.{◌≡◌, ◌≤◌, ◌+◌, length, Some, IfOk};
+    ghost use Rattle.std.specs.Prelude.{◌≡◌, ◌≤◌, ◌+◌, ◌++◌, pos, length, Some, IfOk, OnOk, IfSome, IfNone};
     ghost use Rattle.std.specs.Option.{option_copied};
-    ghost use Rattle.job_body.specs.Operations.{number_of};
+    ghost use Rattle.job_body.specs.Operations.{number_of, part};
     ghost use Rattle.swan_model.specs.Values.{bytes_of, kind_of};
-    ghost use Rattle.job_body.specs.Runs.{after_go, number_in, record_of, set_by, value_in, value_of, values_after_answer, with_slot};
+    ghost use Rattle.job_body.specs.Runs.{after_go, caught_after_answer, number_in, record_of, set_by, value_in, value_of, values_after_answer, with_slot};
     ghost use Rattle.swan_model.specs.declared.record.TheConstants.{RECORD_MOST};
-    ghost use Rattle.swan_model.specs.declared.value.Value.TheVariants.{Int};
+    ghost use Rattle.swan_model.specs.declared.value.Value.TheVariants.{Int, Bytes};
 
-    /// A local with these parts. `O(1)`.
-    pub(crate) fn new(before: u32, at: u32, values: Vec<Value>) -> JobLocal
-        ensures { result ≡ record { before = before; at = at; values = values.items } }
+    /// The local of an activation that begins, with no failed children. `O(1)`.
+    pub(crate) fn new(before: u32, at: u32, values: Vec<Slot>) -> JobLocal
+        ensures { result ≡ record { before = before; at = at; values = values.items; caught = 0 } }
     {
-        JobLocal { before, at, values }
+        let caught = 0;
+        JobLocal {
+            before,
+            at,
+            values,
+            caught,
+        }
     }
 
     /// The index of the line of the last step. `O(1)`.
@@ -51,19 +60,47 @@ impl JobLocal {
         self.at
     }
 
-    /// The value of an operand. A record shares its bytes. `O(1)`.
+    /// How many children failed that the last sync waited for; 0 before the first one. `O(1)`.
+    pub(crate) fn caught(&self) -> u64
+        ensures { result ≡ self.now.caught }
+    {
+        self.caught
+    }
+
+    /// The value of an operand, for someone else. A record shares its bytes. `O(1)`, but `O(length)` for the first time after bytes
+    /// were added in place.
     #[inline(always)]
-    pub(crate) fn value(&self, operand: &Operand) -> Result<Value, NoMemory>
-        ensures { IfOk result (λ it. it ≡ value_of self.now.values operand.now) }
+    pub(crate) fn value(&mut self, operand: &Operand) -> Result<Value, NoMemory>
+        ensures value { IfOk result (λ it. it ≡ value_of self.old.values operand.now) }
+        ensures kept { OnOk result (self.new ≡ self.old) }
     {
         match operand {
             Operand::Int(number) => Ok(Value::Int(*number)),
             Operand::Bytes(record) => Ok(Value::Bytes(record.copy()?)),
-            Operand::Variable(slot) => match self.values.get(*slot as usize) {
-                // A number needs no call.
-                Some(Value::Int(number)) => Ok(Value::Int(*number)),
-                Some(value) => value.copy(),
+            Operand::Variable(slot) => match self.values.get_mut(*slot as usize) {
+                Some(slot) => slot.give(),
                 None => Ok(Value::Int(0)),
+            },
+        }
+    }
+
+    /// The part of an operand's bytes from the place i on up to, without, the place j. A number has none. They are shared. `O(1)`,
+    /// but `O(length)` for the first time after bytes were added in place.
+    pub(crate) fn part(
+        &mut self,
+        operand: &Operand,
+        i: i64,
+        j: i64,
+    ) -> Result<Result<Value, Trouble>, NoMemory>
+        ensures part { IfOk result (λ it. it ≡ part (bytes_of (value_of self.old.values operand.now)) i j) }
+        ensures kept { OnOk result (self.new ≡ self.old) }
+    {
+        match operand {
+            Operand::Int(_) => part_of_none(i, j),
+            Operand::Bytes(record) => part(record, i, j),
+            Operand::Variable(slot) => match self.values.get_mut(*slot as usize) {
+                Some(slot) => slot.part(i, j),
+                None => part_of_none(i, j),
             },
         }
     }
@@ -86,7 +123,7 @@ impl JobLocal {
         ensures { result ≡ number_of (value_in self.now.values (Some slot)) }
     {
         match self.values.get(slot as usize) {
-            Some(value) => number_of(value),
+            Some(slot) => slot.number(),
             None => 0,
         }
     }
@@ -102,17 +139,15 @@ impl JobLocal {
         }
     }
 
-    /// The record that an operand means; None where it means a number. `O(1)`.
-    pub(crate) fn record<'a>(&'a self, operand: &'a Operand) -> Option<&'a Record>
-        ensures { option_copied result ≡ record_of (value_of self.now.values operand.now) }
+    /// The bytes that an operand means; None where it means a number. `O(1)`.
+    pub(crate) fn bytes_if_any<'a>(&'a self, operand: &'a Operand) -> Option<&'a [u8]>
+        ensures bytes { option_copied result ≡ record_of (value_of self.now.values operand.now) }
+        ensures most { IfSome result (λ bytes. length bytes.now ≤ RECORD_MOST) }
     {
         match operand {
             Operand::Int(_) => None,
-            Operand::Bytes(record) => Some(record),
-            Operand::Variable(slot) => match self.values.get(*slot as usize) {
-                Some(Value::Bytes(record)) => Some(record),
-                _ => None,
-            },
+            Operand::Bytes(record) => Some(record.as_slice()),
+            Operand::Variable(slot) => self.values.get(*slot as usize)?.bytes(),
         }
     }
 
@@ -121,8 +156,8 @@ impl JobLocal {
         ensures bytes { result.now ≡ bytes_of (value_of self.now.values operand.now) }
         ensures most { length result.now ≤ RECORD_MOST }
     {
-        match self.record(operand) {
-            Some(record) => record.as_slice(),
+        match self.bytes_if_any(operand) {
+            Some(bytes) => bytes,
             None => &[],
         }
     }
@@ -135,8 +170,21 @@ impl JobLocal {
             return Kind::Int;
         };
         match self.values.get(slot as usize) {
-            Some(value) => value.kind(),
+            Some(slot) => slot.kind(),
             None => Kind::Int,
+        }
+    }
+
+    /// Puts a variable into a slot, where it is there. `O(1)`.
+    #[inline(always)]
+    fn set_slot(&mut self, slot: Option<u32>, new: Slot)
+        ensures { self.new ≡ record self.old { values = with_slot self.old.values slot new } }
+    {
+        let Some(slot) = slot else {
+            return;
+        };
+        if let Some(place) = self.values.get_mut(slot as usize) {
+            *place = new;
         }
     }
 
@@ -145,12 +193,7 @@ impl JobLocal {
     pub(crate) fn set(&mut self, slot: Option<u32>, value: Value)
         ensures { self.new ≡ record self.old { values = with_slot self.old.values slot value } }
     {
-        let Some(slot) = slot else {
-            return;
-        };
-        if let Some(place) = self.values.get_mut(slot as usize) {
-            *place = value;
-        }
+        self.set_slot(slot, Slot::new(value));
     }
 
     /// Puts a number into a slot, where it is there. `O(1)`.
@@ -158,9 +201,66 @@ impl JobLocal {
     pub(crate) fn put(&mut self, slot: u32, number: i64)
         ensures { self.new ≡ record self.old { values = with_slot self.old.values (Some slot) (Int number) } }
     {
-        if let Some(value) = self.values.get_mut(slot as usize) {
-            make_int(value, number);
+        if let Some(slot) = self.values.get_mut(slot as usize) {
+            slot.make_int(number);
         }
+    }
+
+    /// Takes the bytes of the first operand out of their slot and leaves the number 0, where they may grow there, where that is the
+    /// slot that is to be set, and where the second operand means another one. `O(1)`.
+    fn take_growing(
+        &mut self,
+        slot: Option<u32>,
+        first: &Operand,
+        second: &Operand,
+    ) -> Option<Vec<u8>>
+        // what is taken
+        ensures taken { IfSome result (λ bytes. bytes.items ≡ bytes_of (value_of self.old.values first.now)) }
+        ensures left { IfSome result (λ _. self.new ≡ record self.old { values = with_slot self.old.values slot (Int (pos 0)) }) }
+        ensures second { IfSome result (λ _. value_of self.new.values second.now ≡ value_of self.old.values second.now) }
+
+        // and where nothing is
+        ensures none { IfNone result (self.new ≡ self.old) }
+    {
+        let (Some(to), Operand::Variable(from)) = (slot, first) else {
+            return None;
+        };
+        if to != *from {
+            return None;
+        }
+        if let Operand::Variable(other) = second {
+            if to == *other {
+                return None;
+            }
+        }
+        self.values.get_mut(to as usize)?.take_growing()
+    }
+
+    /// Sets a slot, where it is there, to the bytes of two operands, joined. `O(length)`; but `O(length of what is added)`, amortised,
+    /// where the slot is that of the first operand, and no one else was given the bytes in it since they were joined there.
+    #[tactic(auto, using(crate::proofs::Values::set_again))]
+    pub(crate) fn join(
+        &mut self,
+        alloc: Global,
+        slot: Option<u32>,
+        first: &Operand,
+        second: &Operand,
+    ) -> Result<(), NoMemory>
+        requires { length (bytes_of (value_of self.old.values first.now) ++ bytes_of (value_of self.old.values second.now)) ≤ RECORD_MOST }
+        ensures { OnOk result (self.new ≡ record self.old {
+          values = with_slot self.old.values slot
+              (Bytes (bytes_of (value_of self.old.values first.now) ++ bytes_of (value_of self.old.values second.now)));
+        }) }
+    {
+        let bytes = match self.take_growing(slot, first, second) {
+            Some(mut bytes) => {
+                bytes.extend_from_slice(self.bytes(second))?;
+                bytes
+            }
+            None => joined(alloc, self.bytes(first), self.bytes(second))?,
+        };
+        self.set_slot(slot, Slot::growing(bytes));
+        Ok(())
     }
 
     /// Sets a slot to a value of its kind; one of the other kind leaves it as it is. `O(1)`.
@@ -176,7 +276,7 @@ impl JobLocal {
     /// Takes the answer to what the last step asked for. One that it didn't ask for is nothing.
     /// `O(1)`.
     pub(crate) fn tell(&mut self, last: &Action, answer: Answer)
-        ensures { self.new ≡ record self.old { values = values_after_answer self.old.values last.now answer } }
+        ensures { self.new ≡ record self.old { values = values_after_answer self.old.values last.now answer; caught = caught_after_answer self.old.caught last.now answer } }
     {
         match (last, answer) {
             (Action::Demand(Demand::Read(slot, _) | Demand::Pop(slot, _)), Answer::Item(value)) => {
@@ -185,6 +285,7 @@ impl JobLocal {
             (Action::Demand(Demand::Empty(slot, _)), Answer::Flag(is_empty)) => {
                 self.receive(*slot, flag(is_empty));
             }
+            (Action::Demand(Demand::Sync), Answer::Caught(failed)) => self.caught = failed,
             _ => {}
         }
     }

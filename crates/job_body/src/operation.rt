@@ -1,5 +1,5 @@
 // Operations on values.
-ghost use Rattle.std.specs.Prelude.{◌≡◌, ◌≤◌, ◌+ℤ◌, ◌-ℤ◌, ◌*ℤ◌, ◌++◌, ◌==◌, pos, length, drop, position, IfOk};
+ghost use Rattle.std.specs.Prelude.{◌≡◌, ◌≤◌, ◌+ℤ◌, ◌-ℤ◌, ◌*ℤ◌, ◌++◌, ◌==◌, pos, [], length, drop, position, IfOk};
 ghost use Rattle.job_body.specs.Operations.{number_of, flag, fitting_number, quotient, rest, is_true, byte_at, part, found, fitting_bytes, numbered, up_to, place_after};
 ghost use Rattle.job_body.specs.Runs.{int_operation, valued};
 ghost use Rattle.swan_model.specs.declared.value.Value.TheVariants.{Int};
@@ -9,27 +9,6 @@ use crate::instruction::IntOp;
 use job_reader::read_number;
 use std::alloc::Global;
 use swan_model::{NoMemory, RECORD_MOST, Record, RecordAnswer, Trouble, Value};
-
-/// A value where a number is asked.
-pub fn number_of(value: &Value) -> i64
-    ensures { result ≡ number_of value.now }
-{
-    match value {
-        Value::Int(number) => *number,
-        Value::Bytes(_) => 0,
-    }
-}
-
-/// Makes a value this number: a number is written over alone, and bytes are given up. `O(1)`.
-#[inline(always)]
-pub fn make_int(value: &mut Value, number: i64)
-    ensures { value.new ≡ Int number }
-{
-    match value {
-        Value::Int(place) => *place = number,
-        Value::Bytes(_) => *value = Value::Int(number),
-    }
-}
 
 /// Whether a number is true. `O(1)`.
 #[inline(always)]
@@ -148,17 +127,6 @@ pub fn byte_at(bytes: &[u8], i: i64) -> Result<Value, Trouble>
     }
 }
 
-/// A record of bytes, or TooLong.
-fn record_of(alloc: Global, bytes: &[u8]) -> Result<Result<Value, Trouble>, NoMemory>
-    ensures { IfOk result (λ it. it ≡ fitting_bytes bytes.now) }
-{
-    match Record::of(alloc, bytes) {
-        Ok(it) => Ok(Ok(Value::Bytes(it))),
-        Err(RecordAnswer::TooLong) => Ok(Err(Trouble::TooLong)),
-        Err(RecordAnswer::NoMemory) => Err(NoMemory),
-    }
-}
-
 /// The bytes from the place i on up to, without, the place j. They are shared. `O(1)`.
 pub fn part(whole: &Record, i: i64, j: i64) -> Result<Result<Value, Trouble>, NoMemory>
     ensures { IfOk result (λ it. it ≡ part whole.now i j) }
@@ -170,6 +138,13 @@ pub fn part(whole: &Record, i: i64, j: i64) -> Result<Result<Value, Trouble>, No
         return Ok(Err(Trouble::Range));
     };
     Ok(Ok(Value::Bytes(whole.part(from, to)?)))
+}
+
+/// The part of no bytes, as `part`. `O(1)`.
+pub fn part_of_none(i: i64, j: i64) -> Result<Result<Value, Trouble>, NoMemory>
+    ensures { IfOk result (λ it. it ≡ part [] i j) }
+{
+    part(&Record::empty(), i, j)
 }
 
 /// The first place at which a byte stands.
@@ -213,19 +188,16 @@ pub fn length_of(bytes: &[u8]) -> Value
     Value::Int(bytes.len() as i64)
 }
 
-/// Both, joined. What is too long isn't made. `O(length)`, and a few allocations.
-pub fn joined(alloc: Global, a: &[u8], b: &[u8]) -> Result<Result<Value, Trouble>, NoMemory>
+/// Both, joined, with no room to spare. `O(length)`, and one allocation.
+pub fn joined(alloc: Global, a: &[u8], b: &[u8]) -> Result<Vec<u8>, NoMemory>
     requires first { length a.now ≤ RECORD_MOST }
     requires second { length b.now ≤ RECORD_MOST }
-    ensures { IfOk result (λ it. it ≡ fitting_bytes (a.now ++ b.now)) }
+    ensures { IfOk result (λ both. both.items ≡ a.now ++ b.now) }
 {
-    if a.len() + b.len() > RECORD_MOST {
-        return Ok(Err(Trouble::TooLong));
-    }
-    let mut bytes = Vec::with_capacity(alloc, a.len() + b.len())?;
-    bytes.extend_from_slice(a)?;
-    bytes.extend_from_slice(b)?;
-    record_of(alloc, bytes.as_slice())
+    let mut both = Vec::with_capacity(alloc, a.len() + b.len())?;
+    both.extend_from_slice(a)?;
+    both.extend_from_slice(b)?;
+    Ok(both)
 }
 
 /// The number that bytes are the text of.

@@ -1,25 +1,27 @@
 // Running instructions.
-ghost use Rattle.std.specs.Prelude.{◌≡◌, ◌++◌, ◌+◌, ◌-◌, ◌^◌, ◌<◌, ◌≤◌, suc, min, map, pos, Some, None, IfOk, IfSome, IfNone};
+ghost use Rattle.std.specs.Prelude.{◌≡◌, ◌++◌, ◌+◌, ◌-◌, ◌^◌, ◌<◌, ◌≤◌, suc, min, map, pos, Some, None, IfOk, OnOk, IfSome, IfNone};
 ghost use Rattle.job_body.specs.Runs.{after_answer_by, after_go, ask_by, begun_in, demanded, last_of, next_by, run_of_spawn, value_of, worked};
+ghost use Rattle.job_body.specs.Steps.{counted};
 ghost use Rattle.swan_model.specs.Work.{ask_after, AreWork, local_after};
 ghost use Rattle.swan_model.specs.declared.body.Ask.TheVariants as ask;
 ghost use Rattle.swan_model.specs.declared.value.Value.TheVariants as value;
 ghost use Rattle.swan_model.specs.Values.{zero_of};
 
 use crate::JobLocal;
+use crate::assignment::assign;
 use crate::instruction::{Action, Demand, Instruction, Operand, Work};
 use crate::operation::{is_true, reckoned};
-use crate::outcome::outcome_of;
+use crate::slot::Slot;
 use crate::task_index::TaskIndex;
 use std::alloc::Global;
 use swan_model::{Answer, Ask, Child, Gives, Kind, Listed, NoMemory, Stop, Trouble, Value, Worked};
 
 /// The values, and after them the zeros of these kinds.
-fn with_zeros(mut values: Vec<Value>, kinds: &[Kind]) -> Result<Vec<Value>, NoMemory>
+fn with_zeros(mut values: Vec<Slot>, kinds: &[Kind]) -> Result<Vec<Slot>, NoMemory>
     ensures { IfOk result (λ all. all.items ≡ values.items ++ map zero_of kinds.now) }
 {
     for kind in kinds {
-        values.push(Value::zero(*kind))?;
+        values.push(Slot::new(Value::zero(*kind)))?;
     }
     Ok(values)
 }
@@ -28,7 +30,7 @@ fn with_zeros(mut values: Vec<Value>, kinds: &[Kind]) -> Result<Vec<Value>, NoMe
 pub fn begin(
     program: &Listed<Instruction>,
     task: &TaskIndex,
-    values: Vec<Value>,
+    values: Vec<Slot>,
 ) -> Result<JobLocal, NoMemory>
     ensures { IfOk result (λ local. local ≡ begun_in program.now task.now values.items) }
 {
@@ -42,13 +44,18 @@ pub fn begin(
     Ok(JobLocal::new(index, index + 1, values))
 }
 
-/// The values of operands.
-fn values_of(alloc: Global, local: &JobLocal, operands: &[Operand]) -> Result<Vec<Value>, NoMemory>
-    ensures { IfOk result (λ values. values.items ≡ map (value_of local.now.values) operands.now) }
+/// Variables with the values of operands, for someone else.
+fn values_of(
+    alloc: Global,
+    local: &mut JobLocal,
+    operands: &[Operand],
+) -> Result<Vec<Slot>, NoMemory>
+    ensures values { IfOk result (λ values. values.items ≡ map (value_of local.old.values) operands.now) }
+    ensures kept { OnOk result (local.new ≡ local.old) }
 {
     let mut values = Vec::new(alloc);
     for operand in operands {
-        values.push(local.value(operand)?)?;
+        values.push(Slot::new(local.value(operand)?))?;
     }
     Ok(values)
 }
@@ -127,11 +134,11 @@ fn do_demand(
     }
 }
 
-/// A fuel as a number.
-fn fuel_value(fuel: u64) -> Value
-    ensures { result ≡ value.Int (pos (min fuel (2 ^ 63 - 1))) }
+/// A count as a number of the language.
+fn counted(count: u64) -> Value
+    ensures { result ≡ counted count }
 {
-    Value::Int(fuel.min(i64::MAX as u64) as i64)
+    Value::Int(count.min(i64::MAX as u64) as i64)
 }
 
 /// Does work that goes on at a line. It answers the trouble that it met, and has then done nothing.
@@ -164,15 +171,17 @@ fn do_work(
             local.go(to);
         }
         Work::Go => local.go(to),
-        Work::Assign(slot, op, a, b, c) => match outcome_of(alloc, local, *op, a, b, c)? {
-            Ok(value) => {
-                local.set(*slot, value);
-                local.go(to);
-            }
-            Err(trouble) => return Ok(Some(trouble)),
+        Work::Assign(slot, op, a, b, c) => match assign(alloc, local, *slot, *op, a, b, c)? {
+            None => local.go(to),
+            Some(trouble) => return Ok(Some(trouble)),
         },
+        Work::Caught(slot) => {
+            let caught = counted(local.caught());
+            local.set(*slot, caught);
+            local.go(to);
+        }
         Work::Fuel(slot) => {
-            local.set(*slot, fuel_value(fuel));
+            local.set(*slot, counted(fuel));
             local.go(to);
         }
     }

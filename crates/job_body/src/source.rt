@@ -14,7 +14,8 @@ fn is_executed(line: &Line) -> bool
     ensures { result ≡ is_executed line.now }
 {
     match line {
-        Line::Note(_) | Line::Header | Line::Input(_) | Line::Output(_, _) | Line::Task(_) => false,
+        Line::Note(_) | Line::Header(_) | Line::Input(_) | Line::Output(_, _) | Line::Task(_) =>
+            false,
         Line::Param(_, _) | Line::Access(_, _, _) | Line::Var(_, _) | Line::Do => false,
         _ => true,
     }
