@@ -6,7 +6,7 @@ use Rattle.swan_model.specs.declared.fault.FaultKind.TheVariants.{PopEmpty}
 use Rattle.swan_model.specs.declared.script.Deed.{Deed}
 use Rattle.swan_model.specs.declared.script.Deed.TheVariants as deed
 use Rattle.swan_model.specs.SerialState.{Activation, Store, State}
-use Rattle.swan_model.specs.SerialStep.{with_answer}
+use Rattle.swan_model.specs.SerialStep.{synced, with_answer, with_failed}
 use Rattle.swan_model.specs.SerialStep as serial
 use Rattle.serial_elision.specs.declared.effect.Effect.{Effect}
 use Rattle.serial_elision.specs.declared.effect.Effect.TheVariants.{Answered, Spawned, Ended, Faulted}
@@ -35,6 +35,7 @@ as_ask (own.Fail trouble) = ask.Fail trouble
 -- none yet.
 abbrev pub IsReply : {L : Type 0} → Reply L → Activation L → Store → Store → Ask L → serial.Effect L → Type 0
 IsReply (reply.Told answer) a before after asks effect = effect ≡ serial.goes_on (with_answer a answer) after
+IsReply reply.Synced a before after asks effect = effect ≡ serial.goes_on (synced a) after
 IsReply (reply.Fault kind) a before after asks effect = (effect ≡ serial.faults kind) × (after ≡ before)
 IsReply (reply.Own task) a before after asks effect = (asks ≡ as_ask task) × (after ≡ before)
 
@@ -43,7 +44,7 @@ abbrev pub after_effect : {L : Type 0} → Effect L → Activation L → ℕ →
 after_effect (Answered answer) a place s = record s { steps = s.steps + 1; stack = with_answer a answer ∷ s.stack }
 after_effect (Spawned child) a place s = record s { steps = s.steps + 1; stack = child ∷ a ∷ s.stack }
 after_effect Ended a place s = record s { steps = s.steps + 1 }
-after_effect (Faulted kind) a place s = record s { steps = s.steps + 1; faults = s.faults ++ (record { path = a.path; place = place; kind = kind }) ∷ [] }
+after_effect (Faulted kind) a place s = record s { steps = s.steps + 1; stack = with_failed s.stack; faults = s.faults ++ (record { path = a.path; place = place; kind = kind }) ∷ [] }
 
 -- What an ask with this effect did, where it was to do that; and whether its activation ends by it.
 abbrev pub deed_kept : {L : Type 0} → Deed → Effect L → Deed

@@ -18,7 +18,7 @@ use Rattle.swan_model.specs.Nested.{spawn_time}
 use Rattle.swan_model.specs.PathOrder.{comes_before}
 use Rattle.swan_model.specs.Script.{origin_at}
 use Rattle.swan_model.specs.SerialState.{Holding, Activation, Cell, Queue, Store, State}
-use Rattle.swan_model.specs.SerialStep.{number_at}
+use Rattle.swan_model.specs.SerialStep.{number_at, with_failed}
 use Rattle.swan_model.specs.SerialTime.{Progress, Reading, is_done, times}
 use Rattle.swan_model.specs.Told.{deed_at}
 
@@ -29,12 +29,14 @@ named_give store holdings give =
     option_map (λ origin. record { origin = origin; mode = give.mode }) (origin_at store holdings give.place give.mode)
 
 module _ {B L : Type 0} (G : Ghosts B L) where
-  -- One fault was booked: that of the top activation, where it stood in the program. The activation is
-  -- gone, those below it stay, and so do all objects and queues.
+  -- One fault was booked: that of the top activation, where it stood in the program. The activation is gone. Its parent,
+  -- where it has one, has one more failed child; those below it stay else, and so do all objects and queues.
   pub record EndsByFault (body : B) (before after : State L) : Type 0 where
     pub top : Activation L
     pub fault : Fault
-    pub ended : before.stack ≡ top ∷ after.stack
+    pub below : List (Activation L)
+    pub ended : before.stack ≡ top ∷ below
+    pub counted : after.stack ≡ with_failed below
     pub path : fault.path ≡ top.path
     pub place : fault.place ≡ G.place_of body top.local
     pub booked : after.faults ≡ before.faults ++ fault ∷ []

@@ -24,6 +24,8 @@ pub struct Activation<L> {
     pub holdings: Vec<Holding>,
     /// How many children it has spawned.
     pub children: u32,
+    /// How many of them ended by a fault since its last Sync, or since its start.
+    pub failed: u64,
 }
 
 impl<L> Model for Activation<L> {
@@ -40,6 +42,7 @@ impl<L> Model for Activation<L> {
       fuel = a.fuel;
       holdings = a.holdings.items;
       children = a.children;
+      failed = a.failed;
     } };
 
     ghost invariant = { λ a. IsWithin (length a.holdings.items) a.children a.fuel };
@@ -90,6 +93,7 @@ impl<L> Activation<L> {
             fuel,
             holdings,
             children,
+            failed,
         } = self;
         let fuel = fuel - 1;
         let (local, ask) = body.advance(alloc, local, answer, fuel)?;
@@ -100,6 +104,7 @@ impl<L> Activation<L> {
             fuel,
             holdings,
             children,
+            failed,
         };
         Ok((moved, ask))
     }

@@ -9,14 +9,15 @@ use swan_model::{Answer, Ask, FaultKind, NoMemory};
 
 impl Store {
     /// Answers an ask of one who holds this, where it is about objects and queues at places, or about
-    /// nothing. Any other ask comes back as Own, and has had no effect. `O(1)` amortised; a record shares its bytes.
+    /// nothing. A Sync comes back as Synced, and any other ask as Own; neither has had an effect. `O(1)` amortised; a record shares its bytes.
     #[inline(always)]
     pub fn answer<L>(&mut self, holdings: &[Holding], ask: Ask<L>) -> Result<Reply<L>, NoMemory>
         ensures { (n : ℕ) (a : Activation L) → a.holdings ≡ holdings.now → IfOk result (λ reply.
             IsReply reply a self.old self.new ask (effect n self.old a ask)) }
     {
         match ask {
-            Ask::Work | Ask::Sync => Ok(Reply::Told(Answer::Nothing)),
+            Ask::Work => Ok(Reply::Told(Answer::Nothing)),
+            Ask::Sync => Ok(Reply::Synced),
             Ask::Read(place) => match self.read(holdings, place)? {
                 Some(value) => Ok(Reply::Told(Answer::Item(value))),
                 None => Ok(Reply::Fault(FaultKind::Privilege)),

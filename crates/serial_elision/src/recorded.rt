@@ -3,6 +3,7 @@ ghost use Rattle.std.specs.Prelude.{◌≡◌, ◌+◌, ◌^◌, ◌<◌, IfOk, 
 ghost use Rattle.swan_model.specs.Elision.{most_steps};
 ghost use Rattle.swan_model.specs.Script.{entries, script, next_entry, with_entry};
 ghost use Rattle.swan_model.specs.SerialStep.{step};
+ghost use Rattle.serial_elision.specs.Bounds.{MayFail};
 
 use crate::deeds::{asked, entry};
 use crate::roots::start;
@@ -100,7 +101,8 @@ impl<L: Drop> State<L> {
         body: &B,
         entries: &mut Entries,
     ) -> Result<(), NoMemory>
-        requires { self.old.steps + 1 < 2 ^ 64 }
+        requires steps { self.old.steps + 1 < 2 ^ 64 }
+        requires stack { MayFail self.old.stack }
         ensures state { OnOk result (self.new ≡ step B.Body body.now self.old) }
         ensures entry { OnOk result (entries.new ≡ with_entry entries.old (next_entry B.Body body.now self.old)) }
     {
@@ -115,7 +117,8 @@ impl<L: Drop> State<L> {
         alloc: Global,
         body: &B,
     ) -> Result<Option<Entry>, NoMemory>
-        requires { self.old.steps + 1 < 2 ^ 64 }
+        requires steps { self.old.steps + 1 < 2 ^ 64 }
+        requires stack { MayFail self.old.stack }
         ensures state { OnOk result (self.new ≡ step B.Body body.now self.old) }
         ensures entry { IfOk result (λ told. told ≡ next_entry B.Body body.now self.old) }
     {

@@ -21,7 +21,7 @@ pub fn start<L: Drop>(
 ) -> Result<State<L>, NoMemory>
     ensures { IfOk result (λ state. state ≡ record {
       steps = 0;
-      stack = (record { path = []; local = local; answer = answer.Start; fuel = fuel; holdings = root_holdings roots; children = 0 }) ∷ [];
+      stack = (record { path = []; local = local; answer = answer.Start; fuel = fuel; holdings = root_holdings roots; children = 0; failed = 0 }) ∷ [];
       store = first_store roots;
       faults = [];
     }) }
@@ -40,6 +40,7 @@ pub fn start<L: Drop>(
         fuel: fuel.units(),
         holdings,
         children: 0,
+        failed: 0,
     })?;
     Ok(State {
         steps: 0,

@@ -120,6 +120,7 @@ fn begin<L: Drop>(
         fuel: child.fuel,
         holdings,
         children: 0,
+        failed: 0,
     })
 }
 

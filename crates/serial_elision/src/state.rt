@@ -1,8 +1,8 @@
 // The serial state, and the serial step.
 ghost use Rattle.std.specs.Prelude.{◌≡◌, ℕ, suc, ◌+◌, ◌^◌, ◌<◌, ◌++◌, ◌∷◌, [], IfOk, OnOk, IsTrue, ◌↔◌};
-ghost use Rattle.swan_model.specs.SerialStep.{state_after, effect, faults};
+ghost use Rattle.swan_model.specs.SerialStep.{state_after, effect, faults, with_failed};
 ghost use Rattle.swan_model.specs.declared.plan.TheConstants.{FUEL_MOST};
-ghost use Rattle.serial_elision.specs.Bounds.{HasPaid};
+ghost use Rattle.serial_elision.specs.Bounds.{HasPaid, MayFail};
 ghost use Rattle.serial_elision.specs.Effects.{as_ask, IsEffect, after_effect};
 ghost use Rattle.serial_elision.specs.Working.{after_steps};
 
@@ -63,6 +63,11 @@ impl<L: Drop> State<L> {
     {
         match self.store.answer(top.holdings.as_slice(), ask)? {
             Reply::Told(answer) => Ok(Effect::Answered(answer)),
+            Reply::Synced => {
+                let failed = top.failed;
+                top.failed = 0;
+                Ok(Effect::Answered(Answer::Caught(failed)))
+            }
             Reply::Fault(kind) => Ok(Effect::Faulted(kind)),
             Reply::Own(ask) => self.perform_own(alloc, top, ask),
         }
@@ -105,7 +110,8 @@ impl<L: Drop> State<L> {
         place: u64,
         effect: Effect<L>,
     ) -> Result<(), NoMemory>
-        requires { self.old.steps + 1 < 2 ^ 64 }
+        requires steps { self.old.steps + 1 < 2 ^ 64 }
+        requires parent { MayFail self.old.stack }
         ensures { OnOk result (self.new ≡ after_effect effect top place self.old) }
     {
         self.steps += 1;
@@ -130,12 +136,15 @@ impl<L: Drop> State<L> {
         }
     }
 
-    /// Books a fault. `O(1)` amortised.
+    /// Books a fault of a task that was taken off the stack, and counts it at the task's parent. `O(1)` amortised.
     fn book(&mut self, path: Path, place: u64, kind: FaultKind) -> Result<(), NoMemory>
+        requires { MayFail self.old.stack }
         ensures { OnOk result (self.new ≡ record self.old {
+          stack = with_failed self.old.stack;
           faults = self.old.faults ++ (record { path = path; place = place; kind = kind }) ∷ [];
         }) }
     {
+        count_failed(&mut self.stack)?;
         match self.faults.push(Fault { path, place, kind }) {
             Ok(()) => Ok(()),
             Err(_) => Err(NoMemory),
@@ -144,7 +153,8 @@ impl<L: Drop> State<L> {
 
     /// Ends a task that was taken off the stack by a fault, in one step. `O(1)` amortised.
     fn fail(&mut self, path: Path, place: u64, kind: FaultKind) -> Result<(), NoMemory>
-        requires { self.old.steps + 1 < 2 ^ 64 }
+        requires steps { self.old.steps + 1 < 2 ^ 64 }
+        requires parent { MayFail self.old.stack }
         ensures { OnOk result (self.new ≡ state_after self.old self.old.stack path place (faults kind)) }
     {
         self.steps += 1;
@@ -163,6 +173,7 @@ impl<L: Drop> State<L> {
     ) -> Result<(), NoMemory>
         requires paid { HasPaid top }
         requires steps { self.old.steps + 1 < 2 ^ 64 }
+        requires parent { MayFail self.old.stack }
         ensures { OnOk result (self.new ≡ state_after self.old self.old.stack top.path place
             (effect self.old.steps self.old.store top (as_ask ask))) }
     {
@@ -182,7 +193,8 @@ impl<L: Drop> State<L> {
     /// touched. The cost of a spawn of `g` gives from a path of `d` parts is `O(g log g + d)`, and each other
     /// step is `O(1)` amortised beside its body's.
     pub fn turn<B: Body<Local = L>>(&mut self, alloc: Global, body: &B) -> Result<(), NoMemory>
-        requires { self.old.steps + FUEL_MOST + 1 < 2 ^ 64 }
+        requires steps { self.old.steps + FUEL_MOST + 1 < 2 ^ 64 }
+        requires stack { MayFail self.old.stack }
         ensures { OnOk result ((n : ℕ) × (self.new ≡ after_steps B.Body body.now self.old (suc n))) }
     {
         let Some(top) = self.stack.pop() else {
@@ -195,6 +207,7 @@ impl<L: Drop> State<L> {
             fuel,
             holdings,
             children,
+            mut failed,
         } = top;
         let mut left = fuel;
         for _row in 0..fuel {
@@ -211,6 +224,10 @@ impl<L: Drop> State<L> {
             left = left - works - 1;
             match self.store.answer(holdings.as_slice(), ask)? {
                 Reply::Told(told) => answer = told,
+                Reply::Synced => {
+                    answer = Answer::Caught(failed);
+                    failed = 0;
+                }
                 Reply::Fault(kind) => return self.fail(path, place, kind),
                 Reply::Own(ask) => {
                     let top = Activation {
@@ -220,6 +237,7 @@ impl<L: Drop> State<L> {
                         fuel: left,
                         holdings,
                         children,
+                        failed,
                     };
                     return self.end_step(alloc, top, place, ask);
                 }
@@ -229,4 +247,16 @@ impl<L: Drop> State<L> {
         let place = body.place(&local);
         self.fail(path, place, FaultKind::Fuel)
     }
+}
+
+/// Counts one more failed child of the top activation, where there is one. `O(1)`.
+fn count_failed<L: Drop>(stack: &mut Stack<Activation<L>>) -> Result<(), NoMemory>
+    requires { MayFail stack.old }
+    ensures { OnOk result (stack.new ≡ with_failed stack.old) }
+{
+    let Some(mut parent) = stack.pop() else {
+        return Ok(());
+    };
+    parent.failed += 1;
+    stack.push(parent)
 }

@@ -73,7 +73,7 @@ pub fn caught_are_counted<B: Body>()
     ensures children { OnStep B.Body (λ at. at.top.children ≡ children_by (script B.Body at.plan) at.path at.k) }
     ensures failed { OnStep B.Body (λ at.
         at.top.failed ≡ failed_children (outcome B.Body at.plan).faults at.path
-            (children_by_sync (script B.Body at.plan) at.path at.k) at.top.children) }
+        (children_by_sync (script B.Body at.plan) at.path at.k) at.top.children) }
 {}
 
 /// The law that what is held keeps its name. Whatever a task holds at a step has a name, by what made it, and
