@@ -51,7 +51,8 @@ returns-clause-step g c =
     let alone = (over (λ k n. (m : _) → ¬ IsLiveChild k.live n m) _ _ _ _ (sym c.self.view_is) (sym c.number-number.ensures) c.in_default.ensures.none) in
     let fault = c.requires.faults has.is.alone.top has.is.alone.stands in
     let last = fault-last g.B.Body _ _ has c.args.at c.args.kind c.requires.faults in
-    let same = booked-kept _ c.args.self.now _ _ c.in_ok-push.ensures.items c.self.view_is in
+    let same = booked-kept _ c.args.self.now c.book.new.self _ c.in_ok-book.ensures.booked refl in
+    let one = subst (λ n. (f : LiveFrame) → live_at c.args.self.now.live n ≡ Some f → HasOneFailed c.args.self.now.live c.book.new.self.live f.parent) c.number-number.ensures c.in_ok-book.ensures.live has.of.frame has.of.live in
     let so = left-over _ _ c.leave.new.self _ _ same c.number-number.ensures c.in_ok-leave.ensures.name c.in_ok-leave.ensures.run c.in_ok-leave.ensures.after c.in_ok-leave.ensures.live in
-    ends-faulty g.B.Body _ _ has c.requires.begun last c.leave.new.self (settled-so g.B.Body _ _ has c.requires.begun alone) (join-so g.B.Body _ _ has c.requires.begun alone) so.1 _ so.0
+    ends-faulty g.B.Body _ _ has c.requires.begun last c.leave.new.self (settled-so g.B.Body _ _ has c.requires.begun alone) (join-so g.B.Body _ _ has c.requires.begun alone) _ one so.1 _ so.0
     fault.0.deed fault.0.effect c.into_path.ensures fault.1
