@@ -20,7 +20,7 @@ use Rattle.swan_model.specs.declared.script.Deed.{Deed}
 use Rattle.swan_model.specs.declared.script.Deed.TheVariants as deed
 use Rattle.swan_model.specs.declared.script.OriginGive.{OriginGive}
 use Rattle.swan_model.specs.declared.value.Value.{Value}
-use Rattle.swan_model.specs.Elision.{serial}
+use Rattle.swan_model.specs.Elision.{outcome, serial}
 use Rattle.swan_model.specs.Granted.{holds}
 use Rattle.swan_model.specs.Rights.{is_aliased}
 use Rattle.swan_model.specs.Roots.{IsWithinBounds}
@@ -33,6 +33,7 @@ use Rattle.swan_model.specs.Values.{kind_of}
 use Rattle.swan_model.proofs.Elements.{last_more}
 use Rattle.swan_model.proofs.Times.{times_rise}
 use Rattle.serial_elision.specs.Laws.{named_give}
+use Rattle.serial_elision.specs.Caught.{once_ended}
 use Rattle.serial_elision.specs.TaskSteps.{MeetsFault, GetsPlace, IsAsking, MayUseAt, child_activation, parent_activation}
 use Rattle.serial_elision.specs.TaskSteps as step
 use Rattle.serial_elision.proofs.AskSteps.{deed-is, effect-is, faults-by, used}
@@ -40,7 +41,8 @@ use Rattle.serial_elision.proofs.Held.{gives-held, give-of, given-each, used-at}
 use Rattle.serial_elision.proofs.NamesStay.{all-named, held-at-step, held-named, names-kept, names-later, names-stay, stand-later}
 use Rattle.serial_elision.proofs.SerialTold.{steps-are}
 use Rattle.serial_elision.proofs.SpawnGives.{named-gives}
-use Rattle.serial_elision.proofs.TaskSteps.{child-time, goes_on_next, next-state, spawns_child, spawns_next}
+use Rattle.serial_elision.proofs.Onward.{spawns_next}
+use Rattle.serial_elision.proofs.TaskSteps.{child-time, goes_on_next, next-state, spawns_child}
 
 -- what a list of gives names at an index
 record IsGiveAt (store : Store) (holdings : List Holding) (gives : List OriginGive) (i : ℕ) (give : Give) : Type 0 where
@@ -206,6 +208,6 @@ module _ {B L : Type 0} (G : Ghosts B L) (plan : Plan B L) (path : List ℕ) (k 
                 deed = deed-is G plan path k top local (ask.Spawn child) is ∙ ap (deed_of (asked store top.holdings (ask.Spawn child))) spawns-it ∙ ap (spawn_of store) held;
                 many = named.many;
                 each = λ i give at. let g = give-at store top.holdings child.gives gives i give named.named at in (g.origin, origin-used give g.origin g.at, g.stands);
-                names = names-stay G plan bounds path k top is.stands parent next refl;
+                names = names-stay G plan bounds path k top is.stands (once_ended (outcome G plan).faults parent begun) next refl;
                 begins = names-kept gives store (state_at G plan begun.path 0).store hs own (stand-later G plan now (time s begun.path 0) (omega (arith, starts))) ∙ all-named gives store hs own;
               }

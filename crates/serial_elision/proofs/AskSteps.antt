@@ -23,14 +23,14 @@ use Rattle.swan_model.specs.Rights.{allows, is_queue_mode}
 use Rattle.swan_model.specs.Roots.{IsWithinBounds}
 use Rattle.swan_model.specs.Script.{about, asked, deed_of, entry_of, give_of, origin_at, origin_of, script}
 use Rattle.swan_model.specs.SerialState.{Activation, Cell, Holding, Queue, Store}
-use Rattle.swan_model.specs.SerialStep.{Effect, goes_on, faults, effect, is_nothing_left, after_next, number_at, on_cell, on_list, on_object, on_queue, popped, spawn_effect, with_answer, used_by, with_items, with_value}
+use Rattle.swan_model.specs.SerialStep.{Effect, goes_on, faults, effect, synced, is_nothing_left, after_next, number_at, on_cell, on_list, on_object, on_queue, popped, spawn_effect, with_answer, used_by, with_items, with_value}
 use Rattle.swan_model.specs.SerialTime.{time}
 use Rattle.swan_model.specs.Told.{cell, count, deed_at, items, pushes, taken}
 use Rattle.swan_model.specs.TrueFrames.{StandsAt, effect_at, state_at}
 use Rattle.swan_model.proofs.Lists.{some_within}
 use Rattle.swan_model.proofs.ScriptCounts.{count_le}
 use Rattle.swan_model.proofs.ScriptSteps.{deed_is}
-use Rattle.serial_elision.specs.TaskSteps.{MeetsFault, GoesOn, IsAsking, LacksRight, MayUseAt}
+use Rattle.serial_elision.specs.TaskSteps.{MeetsFault, GoesOn, GoesOnAs, IsAsking, LacksRight, MayUseAt, Syncs}
 use Rattle.serial_elision.specs.TaskSteps as step
 use Rattle.serial_elision.proofs.Endings.{entry_now}
 use Rattle.serial_elision.proofs.Held.{origin-kind}
@@ -159,24 +159,28 @@ module _ {B L : Type 0} (G : Ghosts B L) (plan : Plan B L) (path : List ℕ) (k 
     refused (ask.Fail trouble) is none = absurd none
 
     module _ (bounds : IsWithinBounds plan.roots.queues plan.roots.objects) where
-      -- a step that answers
-      goes-by : (asks : Ask L) (said : Answer) (after : Store) (does : Deed) → IsAsking G plan path k top local asks
-          → effect steps store (after_next top local) asks ≡ goes_on (with_answer (after_next top local) said) after → asked store top.holdings asks ≡ does → GoesOn G plan path k top local said does
-      goes-by asks said after does is effect_is asks_for =
-          let goes : effect_at G plan path k top ≡ goes_on (with_answer (after_next top local) said) after = effect-is asks is ∙ effect_is in
-          let next = with_answer (after_next top local) said in
+      -- a step that leaves the task so
+      leaves-by : (asks : Ask L) (next : Activation L) (after : Store) (does : Deed) → IsAsking G plan path k top local asks
+          → effect steps store (after_next top local) asks ≡ goes_on next after → next.holdings ≡ top.holdings → asked store top.holdings asks ≡ does → GoesOnAs G plan path k top next does
+      leaves-by asks next after does is effect_is holds_same asks_for =
+          let goes : effect_at G plan path k top ≡ goes_on next after = effect-is asks is ∙ effect_is in
           record {
             store = after;
             effect = goes;
             deed = deed-is asks is ∙ ap (deed_of (asked store top.holdings asks)) goes ∙ asks_for;
-            names = names-stay G plan bounds path k top is.stands next (goes_on_next G plan path k top is.stands next after goes) refl;
+            names = names-stay G plan bounds path k top is.stands next (goes_on_next G plan path k top is.stands next after goes) holds_same;
           }
+
+      -- a step that answers
+      goes-by : (asks : Ask L) (said : Answer) (after : Store) (does : Deed) → IsAsking G plan path k top local asks
+          → effect steps store (after_next top local) asks ≡ goes_on (with_answer (after_next top local) said) after → asked store top.holdings asks ≡ does → GoesOn G plan path k top local said does
+      goes-by asks said after does is effect_is asks_for = leaves-by asks (with_answer (after_next top local) said) after does is effect_is refl asks_for
 
       pub works : IsAsking G plan path k top local ask.Work → GoesOn G plan path k top local answer.Nothing deed.Quiet
       works is = goes-by ask.Work answer.Nothing store deed.Quiet is refl refl
 
-      pub syncs : IsAsking G plan path k top local ask.Sync → GoesOn G plan path k top local answer.Nothing deed.Sync
-      syncs is = goes-by ask.Sync answer.Nothing store deed.Sync is refl refl
+      pub syncs : IsAsking G plan path k top local ask.Sync → Syncs G plan path k top local
+      syncs is = leaves-by ask.Sync (synced (after_next top local)) store deed.Sync is refl refl refl
 
       -- ---- an object
 

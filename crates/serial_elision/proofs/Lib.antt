@@ -20,12 +20,15 @@ pub mod Scripts
 pub mod Entries
 -- the order of tasks and of faults, and how a task goes on
 pub mod Turns
+pub mod FewFailed
 pub mod FaultOrder
 pub mod Passing
 pub mod Nesting
 pub mod Endings
 pub mod TaskSteps
 pub mod FaultsTold
+pub mod Onward
+pub mod Caught
 -- the script tells items and values, and what is left
 pub mod ItemsTold
 pub mod Becomes

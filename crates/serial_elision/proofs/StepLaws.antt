@@ -17,7 +17,7 @@ module _ {B L : Type 0} (G : Ghosts B L) where
   after-faults body s top below (spawns parent child store) is = inl refl
   after-faults body s top below ends is = inl refl
   after-faults body s top below (faults kind) is =
-      inr (record { top = top; fault = record { path = top.path; place = G.place_of body top.local; kind = kind }; ended = is; path = refl; place = refl; booked = refl; store = refl })
+      inr (record { top = top; below = below; counted = refl; fault = record { path = top.path; place = G.place_of body top.local; kind = kind }; ended = is; path = refl; place = refl; booked = refl; store = refl })
 
   step_on-faults : (body : B) (s : State L) (stack : List (Activation L)) → s.stack ≡ stack → EndsWhereItFaults G body s (step_on G body s stack)
   step_on-faults body s [] is = inl refl

@@ -1,5 +1,5 @@
--- A task goes on by its own steps: after a step that neither ends it nor spawns, it stands at its next one; and after
--- a spawn, once the child has ended, whatever the child and the tasks below it did.
+-- A task goes on by its own steps: after a step that neither ends it nor spawns, it stands at its next one; and a child that
+-- it spawned begins at once, and ends.
 use Rattle.std.proofs.Common.{◌≡◌, ◌⊎◌, inl, inr, ℕ, zero, suc, ◌+◌, ◌<◌, ◌≤◌, List, [], ◌∷◌, ◌++◌, Some, length, refl, sym, ap, subst, ◌∙◌, append_assoc, arith}
 use Rattle.std.proofs.lemmas.Bool.{cases_lt}
 use Rattle.std.proofs.lemmas.List.{append-nil}
@@ -13,7 +13,7 @@ use Rattle.swan_model.specs.Elision.{most_steps, root, serial}
 use Rattle.swan_model.specs.Nested.{IsEndOf, IsEntryOf, IsEntryUnder}
 use Rattle.swan_model.specs.Script.{entry_of, is_end, script}
 use Rattle.swan_model.specs.SerialState.{Activation, State, Store}
-use Rattle.swan_model.specs.SerialStep.{Effect, goes_on, spawns, ends, faults, state_after, effect_of, step_on}
+use Rattle.swan_model.specs.SerialStep.{Effect, goes_on, spawns, ends, faults, state_after, effect_of, step_on, with_failed}
 use Rattle.swan_model.specs.SerialTime.{time, times}
 use Rattle.swan_model.specs.TrueFrames.{StandsAt, effect_at}
 use Rattle.swan_model.proofs.Paths.{IsUnder, not_below-itself, path_is-itself, under-child, under-itself, under-moved}
@@ -31,27 +31,29 @@ Runs path [] = ⊥
 Runs path (a ∷ []) = a.path ≡ path
 Runs path (a ∷ b ∷ more) = IsUnder path a.path × Runs path (b ∷ more)
 
--- a step of the top one leaves none of them, or such ones
-after-runs : {L : Type 0} (path : List ℕ) (s : State L) (top : Activation L) (more : List (Activation L)) (place : ℕ) (does : Deed) (done : Effect L) → FitsDeed top does done
-    → Runs path (top ∷ more) → ((state_after s more top.path place done).stack ≡ []) ⊎ Runs path (state_after s more top.path place done).stack
-after-runs path s top [] place does (goes_on a store) fits is = inr (fits.0 ∙ is)
-after-runs path s top [] place does (spawns parent child store) fits is =
-    inr (under-child path top.path child.path top.children fits.2 (under-itself path top.path is), fits.0 ∙ is)
-after-runs path s top [] place does ends fits is = inl refl
-after-runs path s top [] place does (faults kind) fits is = inl refl
-after-runs path s top (b ∷ more) place does (goes_on a store) fits is = inr (under-moved path top.path a.path fits.0 is.0, is.1)
-after-runs path s top (b ∷ more) place does (spawns parent child store) fits is =
-    inr (under-child path top.path child.path top.children fits.2 is.0, (under-moved path top.path parent.path fits.0 is.0, is.1))
-after-runs path s top (b ∷ more) place does ends fits is = inr is.1
-after-runs path s top (b ∷ more) place does (faults kind) fits is = inr is.1
+-- one more failed child changes no path
+runs-failed : {L : Type 0} (path : List ℕ) (a : Activation L) (more : List (Activation L)) → Runs path (a ∷ more) → Runs path (with_failed (a ∷ more))
+runs-failed path a [] is = is
+runs-failed path a (b ∷ more) is = is
 
--- a step doesn't touch what stands below
-after-below : {L : Type 0} (s : State L) (more rest : List (Activation L)) (path : List ℕ) (place : ℕ) (done : Effect L)
-    → (state_after s (more ++ rest) path place done).stack ≡ (state_after s more path place done).stack ++ rest
-after-below s more rest path place (goes_on a store) = refl
-after-below s more rest path place (spawns parent child store) = refl
-after-below s more rest path place ends = refl
-after-below s more rest path place (faults kind) = refl
+-- A step of the top one doesn't touch what stands below these, but where it ends the last of them; else it leaves such ones.
+data StepOver {L : Type 0} (path : List ℕ) (top : Activation L) (more rest : List (Activation L)) (done : Effect L) (after : List (Activation L)) : Type 0 where
+  over : (above : List (Activation L)) → after ≡ above ++ rest → Runs path above → StepOver path top more rest done after
+  last : more ≡ [] → is_end done ≡ true → StepOver path top more rest done after
+
+step-over : {L : Type 0} (path : List ℕ) (s : State L) (top : Activation L) (more rest : List (Activation L)) (place : ℕ) (does : Deed) (done : Effect L) → FitsDeed top does done
+    → Runs path (top ∷ more) → StepOver path top more rest done (state_after s (more ++ rest) top.path place done).stack
+step-over path s top [] rest place does (goes_on a store) fits is = over (a ∷ []) refl (fits.0 ∙ is)
+step-over path s top [] rest place does (spawns parent child store) fits is =
+    over (child ∷ parent ∷ []) refl (under-child path top.path child.path top.children fits.2 (under-itself path top.path is), fits.0 ∙ is)
+step-over path s top [] rest place does ends fits is = last refl refl
+step-over path s top [] rest place does (faults kind) fits is = last refl refl
+step-over path s top (b ∷ more) rest place does (goes_on a store) fits is = over (a ∷ b ∷ more) refl (under-moved path top.path a.path fits.0 is.0, is.1)
+step-over path s top (b ∷ more) rest place does (spawns parent child store) fits is =
+    over (child ∷ parent ∷ b ∷ more) refl
+    (under-child path top.path child.path top.children fits.2 is.0, (under-moved path top.path parent.path fits.0 is.0, is.1))
+step-over path s top (b ∷ more) rest place does ends fits is = over (b ∷ more) refl is.1
+step-over path s top (b ∷ more) rest place does (faults kind) fits is = over (with_failed (b ∷ more)) refl (runs-failed path b more is.1)
 
 -- what is on top is the task or below it
 top-under : {L : Type 0} (path : List ℕ) (a : Activation L) (more : List (Activation L)) → Runs path (a ∷ more) → IsUnder path a.path
@@ -72,27 +74,39 @@ module _ {B L : Type 0} (G : Ghosts B L) (plan : Plan B L) where
       let under = top-under path a more runs in
       record { entry = entry_of G plan.body s.steps s.store a; stands = entry_now G plan n a (more ++ rest) is; rest = under.rest; under = under.is }
 
+  -- The task ends by its step at this time, with these below it.
+  record EndsOver (path : List ℕ) (rest : List (Activation L)) (time : ℕ) : Type 0 where
+    pub last : Activation L
+    pub stack : (serial G plan time).stack ≡ last ∷ rest
+    pub own : last.path ≡ path
+    pub ends : is_end (effect_of G plan.body (serial G plan time).steps (serial G plan time).store last) ≡ true
+
   over-step : (path : List ℕ) (rest : List (Activation L)) (n : ℕ) (above : List (Activation L)) → (serial G plan n).stack ≡ above ++ rest → Runs path above
-      → ((serial G plan (suc n)).stack ≡ rest) ⊎ IsOver path rest (suc n)
+      → EndsOver path rest n ⊎ IsOver path rest (suc n)
   over-step path rest n [] is runs = absurd runs
   over-step path rest n (a ∷ more) is runs =
       let s = serial G plan n in
       let place = G.place_of plan.body a.local in
       let done = effect_of G plan.body s.steps s.store a in
-      let next : (serial G plan (suc n)).stack ≡ (state_after s more a.path place done).stack ++ rest =
-      next_stack G plan n a (more ++ rest) is ∙ after-below s more rest a.path place done in
-      elim (after-runs path s a more place (next_deed G plan.body s.store a) done (step-fits G plan.body s.steps s.store a) runs) [
-        | inl none ↦ inl (next ∙ ap (λ k. k ++ rest) none)
-        | inr on ↦ inr (record { above = (state_after s more a.path place done).stack; stack = next; runs = on })
+      let next = next_stack G plan n a (more ++ rest) is in
+      elim (step-over path s a more rest place (next_deed G plan.body s.store a) done (step-fits G plan.body s.steps s.store a) runs) [
+        | over above stack on ↦ inr (record { above = above; stack = next ∙ stack; runs = on })
+        | last none end ↦
+            inl (record {
+              last = a;
+              stack = is ∙ ap (λ m. a ∷ m ++ rest) none;
+              own = subst (λ m. Runs path (a ∷ m)) none runs;
+              ends = end;
+            })
       ]
 
-  -- The task has ended by then, and what stood below is on top again; before that only the task and those below it had entries.
-  record IsUncovered (path : List ℕ) (rest : List (Activation L)) (from now : ℕ) : Type 0 where
+  -- The task ends at this time, and until then only it and those below it had entries.
+  pub record IsUncovered (path : List ℕ) (rest : List (Activation L)) (from now : ℕ) : Type 0 where
     pub time : ℕ
-    pub late : from < time
-    pub early : time ≤ now
-    pub stack : (serial G plan time).stack ≡ rest
-    pub under : (v : ℕ) → from ≤ v → v < time → IsEntryUnder (script G plan) path v
+    pub late : from ≤ time
+    pub early : time < now
+    pub over : EndsOver path rest time
+    pub under : (v : ℕ) → from ≤ v → v < suc time → IsEntryUnder (script G plan) path v
 
   record IsCovered (path : List ℕ) (rest : List (Activation L)) (from now : ℕ) : Type 0 where
     pub over : IsOver path rest now
@@ -113,10 +127,10 @@ module _ {B L : Type 0} (G : Ghosts B L) (plan : Plan B L) where
   uncovered path rest from (suc k) is =
       let next : suc (from + k) ≡ from + suc k = omega arith in
       elim (uncovered path rest from k is) [
-        | inl gone ↦ inl (record { time = gone.time; late = gone.late; early = omega (arith, gone.early); stack = gone.stack; under = gone.under })
+        | inl gone ↦ inl (record { time = gone.time; late = gone.late; early = omega (arith, gone.early); over = gone.over; under = gone.under })
         | inr still ↦ elim (over-step path rest (from + k) still.over.above still.over.stack still.over.runs) [
           | inl now ↦
-              inl (record { time = suc (from + k); late = omega arith; early = omega arith; stack = now; under = one_more path rest from (from + k) still })
+              inl (record { time = from + k; late = omega arith; early = omega arith; over = now; under = one_more path rest from (from + k) still })
           | inr on ↦
               inr (record {
                 over = subst (IsOver path rest) next on;
@@ -129,7 +143,7 @@ module _ {B L : Type 0} (G : Ghosts B L) (plan : Plan B L) where
   none-over path rest [] is runs = runs
   none-over path rest (a ∷ more) is runs = absurd (cc)
 
-  -- each task that is on the stack ends, and what stood below it is on top then
+  -- each task that is on the stack ends, with those below it that stood there
   uncovered_later : (path : List ℕ) (rest : List (Activation L)) (from : ℕ) → IsOver path rest from → IsUncovered path rest from (from + most_steps plan)
   uncovered_later path rest from is = elim (uncovered path rest from (most_steps plan) is) [
     | inl gone ↦ gone
@@ -149,13 +163,13 @@ module _ {B L : Type 0} (G : Ghosts B L) (plan : Plan B L) where
       let same : it.top ≡ top = cc in
       (own.0, ap (λ (a : Activation L). a.path) (sym same) ∙ sym it.own ∙ own.0.own)
 
-  entry_own : (path : List ℕ) (n : ℕ) (a : Activation L) (below : List (Activation L)) → (serial G plan n).stack ≡ a ∷ below → a.path ≡ path → IsEntryOf (script G plan) path n
+  pub entry_own : (path : List ℕ) (n : ℕ) (a : Activation L) (below : List (Activation L)) → (serial G plan n).stack ≡ a ∷ below → a.path ≡ path → IsEntryOf (script G plan) path n
   entry_own path n a below stack own =
       let s = serial G plan n in
       record { entry = entry_of G plan.body s.steps s.store a; stands = entry_now G plan n a below stack; own = own }
 
   -- where the next entry of a task is, there it stands
-  stands-later : (path : List ℕ) (k u : ℕ) (a : Activation L) (below : List (Activation L)) → slice_get (times (script G plan) path) k ≡ Some u
+  pub stands-later : (path : List ℕ) (k u : ℕ) (a : Activation L) (below : List (Activation L)) → slice_get (times (script G plan) path) k ≡ Some u
       → (serial G plan u).stack ≡ a ∷ below → StandsAt G plan path k a
   stands-later path k u a below at stack =
       let here : time (script G plan) path k ≡ u = get_or_from_slice_get (times (script G plan) path) k u 0 at in
@@ -191,27 +205,24 @@ module _ {B L : Type 0} (G : Ghosts B L) (plan : Plan B L) where
       stack-then : (serial G plan (suc t)).stack ≡ child ∷ parent ∷ at.below
       stack-then = next-here ∙ ap (λ d. (state_after (serial G plan t) at.below top.path (G.place_of plan.body top.local) d).stack) is
 
-      fits-then : FitsDeed top (next_deed G plan.body (serial G plan t).store top) (spawns parent child store)
+      pub fits-then : FitsDeed top (next_deed G plan.body (serial G plan t).store top) (spawns parent child store)
       fits-then = subst (FitsDeed top (next_deed G plan.body (serial G plan t).store top)) is fits-here
 
-      child_is : child.path ≡ path ++ top.children ∷ []
+      pub child_is : child.path ≡ path ++ top.children ∷ []
       child_is = fits-then.2 ∙ ap (λ p. p ++ top.children ∷ []) (top_path path k top at).1
 
-      -- the parent goes on once the child has ended
-      pub spawns_next : StandsAt G plan path (k + 1) parent
-      spawns_next =
-          let s = script G plan in
-          let own = top_path path k top at in
-          let gone = uncovered_later child.path (parent ∷ at.below) (suc t) (record { above = child ∷ []; stack = stack-then; runs = refl }) in
-          let entry = entry_own path gone.time parent at.below gone.stack (fits-then.0 ∙ own.1) in
-          let none : (v : ℕ) → t < v → v < gone.time → IsEntryOf s path v → ⊥ = λ v late early other.
+      -- the child ends
+      pub child-ends : IsUncovered child.path (parent ∷ at.below) (suc t) (suc t + most_steps plan)
+      child-ends = uncovered_later child.path (parent ∷ at.below) (suc t) (record { above = child ∷ []; stack = stack-then; runs = refl })
+
+      -- the parent has no entry until then
+      pub none-until : (gone : IsUncovered child.path (parent ∷ at.below) (suc t) (suc t + most_steps plan)) (v : ℕ) → t < v → v < suc gone.time → IsEntryOf (script G plan) path v → ⊥
+      none-until gone v late early other =
           let under = gone.under v late early in
           let both : Some under.entry ≡ Some other.entry = sym under.stands ∙ other.stands in
           let same : under.entry ≡ other.entry = cc in
           not_below-itself path under.rest top.children
-          (sym other.own ∙ ap (λ (e : Entry). e.path) (sym same) ∙ under.under ∙ ap (λ p. p ++ under.rest) child_is ∙ append_assoc path (top.children ∷ []) under.rest) in
-          let found = next_time s path k t gone.time (slice_get-get_or (times s path) k 0 at.left) entry (omega (arith, gone.late)) none in
-          stands-later path (k + 1) gone.time parent at.below found gone.stack
+          (sym other.own ∙ ap (λ (e : Entry). e.path) (sym same) ∙ under.under ∙ ap (λ p. p ++ under.rest) child_is ∙ append_assoc path (top.children ∷ []) under.rest)
 
       -- and the child begins
       child-first : slice_get (times (script G plan) child.path) 0 ≡ Some (suc t)
@@ -282,33 +293,3 @@ module _ {B L : Type 0} (G : Ghosts B L) (plan : Plan B L) where
   -- and as one activation alone
   pub stands-one : (path : List ℕ) (k : ℕ) (a b : Activation L) → StandsAt G plan path k a → StandsAt G plan path k b → a ≡ b
   stands-one path k a b one two = let both : a ∷ one.below ≡ b ∷ two.below = sym one.stack ∙ two.stack in cc
-
-  stood-by : (path : List ℕ) (k : ℕ) (before top : Activation L) → StandsAt G plan path (k + 1) top → (at : StandsAt G plan path k before)
-      → (done : Effect L) → effect_at G plan path k before ≡ done
-      → (store : Store) × ((effect_at G plan path k before ≡ goes_on top store) ⊎ ((child : Activation L) × (effect_at G plan path k before ≡ spawns top child store)))
-  stood-by path k before top then at (goes_on a store) is =
-      let same = stands-one path (k + 1) a top (goes_on_next path k before at a store is) then in
-      (store, inl (is ∙ ap (λ b. goes_on b store) same))
-  stood-by path k before top then at (spawns parent child store) is =
-      let same = stands-one path (k + 1) parent top (spawns_next path k before at parent child store is) then in
-      (store, inr (child, is ∙ ap (λ b. spawns b child store) same))
-  stood-by path k before top then at ends is =
-      let over = ends_last path k before at (ap is_end is) in
-      absurd (omega (arith, over, then.left))
-  stood-by path k before top then at (faults kind) is =
-      let over = ends_last path k before at (ap is_end is) in
-      absurd (omega (arith, over, then.left))
-
-  -- Where a task stands at a later step, it stood at the one before, which left it so.
-  pub record HasStood (path : List ℕ) (k : ℕ) (top : Activation L) : Type 0 where
-    pub before : Activation L
-    pub stands : StandsAt G plan path k before
-    pub store : Store
-    pub effect : (effect_at G plan path k before ≡ goes_on top store) ⊎ ((child : Activation L) × (effect_at G plan path k before ≡ spawns top child store))
-
-  pub stood-before : (path : List ℕ) (k : ℕ) (top : Activation L) → StandsAt G plan path (k + 1) top → HasStood path k top
-  stood-before path k top then =
-      let left = then.left in
-      let found = stands-each path k (omega (arith, left)) in
-      let by = stood-by path k found.0 top then found.1 (effect_at G plan path k found.0) refl in
-      record { before = found.0; stands = found.1; store = by.0; effect = by.1 }

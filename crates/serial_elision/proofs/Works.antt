@@ -135,9 +135,9 @@ module _ {B L : Type 0} (G : Ghosts B L) where
   later body s now new n k is_now is =
       (n + k, is ∙ ap (λ t. after_steps G body t (suc k)) is_now ∙ ap (step G body) (after_steps-more body s n k))
 
-  -- an ask that the store has answered: the turn goes on
-  pub told-row : (body : B) (s now : State L) (a : Activation L) (below : List (Activation L)) (budget rows fuel : ℕ) (w : Worked L) (stop : Stop L) (said : Answer) (store : Store) → HasTurned body s now rows a.fuel fuel → now.stack ≡ a ∷ below → HasRow body a budget w → w.stop ≡ Some stop → effect (now.steps + w.works) now.store (record a { local = w.local; answer = answer.Nothing; fuel = a.fuel - w.works - 1 }) stop.ask ≡ goes_on (record a { local = w.local; answer = said; fuel = a.fuel - w.works - 1 }) store → HasTurned body s (record { steps = now.steps + w.works + 1; stack = (record a { local = w.local; answer = said; fuel = a.fuel - w.works - 1 }) ∷ below; store = store; faults = now.faults }) (rows + 1) (a.fuel - w.works - 1) fuel
-  told-row body s now a below budget rows fuel w stop said store so stack row stopped is =
+  -- an ask that the store has answered, or a Sync: the turn goes on
+  pub told-row : (body : B) (s now : State L) (a next : Activation L) (below : List (Activation L)) (budget rows fuel : ℕ) (w : Worked L) (stop : Stop L) (store : Store) → HasTurned body s now rows a.fuel fuel → now.stack ≡ a ∷ below → HasRow body a budget w → w.stop ≡ Some stop → effect (now.steps + w.works) now.store (record a { local = w.local; answer = answer.Nothing; fuel = a.fuel - w.works - 1 }) stop.ask ≡ goes_on next store → HasTurned body s (record { steps = now.steps + w.works + 1; stack = next ∷ below; store = store; faults = now.faults }) (rows + 1) (a.fuel - w.works - 1) fuel
+  told-row body s now a next below budget rows fuel w stop store so stack row stopped is =
       let less : w.works < min budget a.fuel = some-has (λ (stop : Stop L). w.works < min budget a.fuel) w.stop stop stopped row.stopped in
       let more = later body s now _ so.steps w.works so.is_now (ap (state_after (on now w.works below) below a.path stop.place) (sym is) ∙ asked-row body now a below budget w stop stack row stopped) in
       record {

@@ -1,6 +1,8 @@
-use Rattle.std.proofs.Common.{◌≡◌, ◌≤◌, ◌+◌, suc, ◌∙◌, sym, refl, arith, ap, [], map, take, length}
+use Rattle.std.proofs.Common.{◌≡◌, ◌≤◌, ◌+◌, suc, ◌∙◌, sym, subst, refl, arith, ap, [], map, take, length}
 use Rattle.swan_model.specs.Elision.{final, most_steps}
-use Rattle.swan_model.specs.SerialState.{Cell, Queue}
+use Rattle.swan_model.specs.SerialState.{Cell, Queue, State}
+use Rattle.serial_elision.specs.Bounds.{MayFail}
+use Rattle.serial_elision.proofs.FewFailed.{serial-may_fail}
 use Rattle.serial_elision.proofs.Counts.{length-outcome_queues, length-outcome_objects}
 use Rattle.serial_elision.specs.Working.{after_steps}
 use Rattle.serial_elision.proofs.Finals.{final-past, final-empty, le-most}
@@ -8,8 +10,12 @@ use Rattle.serial_elision.proofs.Runs.{outcome-final, serial-more}
 use Rattle.serial_elision.proofs.elision.elide.Goals as goal
 use Rattle.serial_elision.proofs.elision.elide.Goals.{else-loop-turn-test, then-loop-turn-test+then-is_over}
 
-pub turn-requires-after_bounds : goal.turn-requires-after_bounds
-turn-requires-after_bounds g c = λ κs live. omega (arith, le-most g.B.Body c.args.plan c.loop-turn.invariant.steps, ap (λ s. s.steps) c.loop-turn.invariant.now)
+pub turn-requires-clause-steps : goal.turn-requires-clause-steps
+turn-requires-clause-steps g c = omega (arith, le-most g.B.Body c.args.plan c.loop-turn.invariant.steps, ap (λ s. s.steps) c.loop-turn.invariant.now)
+
+pub turn-requires-clause-stack : goal.turn-requires-clause-stack
+turn-requires-clause-stack g c =
+    subst (λ (s : State g.row.B-Local.Denot). MayFail s.stack) (sym c.loop-turn.invariant.now) (serial-may_fail g.B.Body c.args.plan c.loop-turn.invariant.steps ?)
 
 pub returns-clause-outcome : goal.returns-clause-outcome
 returns-clause-outcome g c =

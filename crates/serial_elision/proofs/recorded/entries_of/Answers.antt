@@ -1,15 +1,22 @@
-use Rattle.std.proofs.Common.{◌≡◌, ◌≤◌, ◌∙◌, refl, sym, arith, ap, []}
+use Rattle.std.proofs.Common.{◌≡◌, ◌≤◌, ◌∙◌, refl, sym, subst, arith, ap, []}
 use Rattle.swan_model.specs.Elision.{most_steps}
 use Rattle.swan_model.specs.Script.{entries, next_entry}
+use Rattle.swan_model.specs.SerialState.{State}
 use Rattle.swan_model.specs.SerialStep.{step}
+use Rattle.serial_elision.specs.Bounds.{MayFail}
+use Rattle.serial_elision.proofs.FewFailed.{serial-may_fail}
 use Rattle.serial_elision.proofs.Runs.{le-serial}
 use Rattle.serial_elision.proofs.Scripts.{entries-last, entries_add_one}
 use Rattle.serial_elision.proofs.StepLaws.{serial_add_one}
 use Rattle.serial_elision.proofs.recorded.entries_of.Goals as goal
 use Rattle.serial_elision.proofs.recorded.entries_of.Goals.{else-loop-turn-test, then-loop-turn-test+then-is_over}
 
-pub record_step-requires-after_bounds : goal.record_step-requires-after_bounds
-record_step-requires-after_bounds g c = λ κs live. omega (arith, le-serial g.B.Body c.args.plan c.loop-turn._turn, ap (λ s. s.steps) c.loop-turn.invariant.state)
+pub record_step-requires-clause-steps : goal.record_step-requires-clause-steps
+record_step-requires-clause-steps g c = omega (arith, le-serial g.B.Body c.args.plan c.loop-turn._turn, ap (λ s. s.steps) c.loop-turn.invariant.state)
+
+pub record_step-requires-clause-stack : goal.record_step-requires-clause-stack
+record_step-requires-clause-stack g c =
+    subst (λ (s : State g.row.B-Local.Denot). MayFail s.stack) (sym c.loop-turn.invariant.state) (serial-may_fail g.B.Body c.args.plan c.loop-turn._turn ?)
 
 pub loop-turn-preserved : goal.loop-turn-preserved
 loop-turn-preserved g c =

@@ -1,4 +1,5 @@
-use Rattle.serial_elision.proofs.TaskSteps.{ends_last, goes_on_next, root_stands, spawns_child, spawns_next, stands-each, stands-one, stood-before}
+use Rattle.serial_elision.proofs.Onward.{spawns_next, stood-before}
+use Rattle.serial_elision.proofs.TaskSteps.{ends_last, goes_on_next, root_stands, spawns_child, stands-each, stands-one}
 use Rattle.serial_elision.proofs.task_laws.tasks_go_on.Goals as goal
 
 pub returns : goal.returns

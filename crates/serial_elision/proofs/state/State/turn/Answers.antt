@@ -18,7 +18,7 @@ loop-row-preserved g c =
     let s : State g.row.L.Denot = c.args.self.now in
     let inside = c.self-in-loop-row.inside in
     let below = inside.stack in
-    let a : Activation g.row.L.Denot = record { path = c.loop-row.path; local = c.loop-row.local; answer = c.loop-row.answer; fuel = c.loop-row.left; holdings = c.top.inside.holdings.items; children = c.top.inside.children } in
+    let a : Activation g.row.L.Denot = record { path = c.loop-row.path; local = c.loop-row.local; answer = c.loop-row.answer; fuel = c.loop-row.left; holdings = c.top.inside.holdings.items; children = c.top.inside.children; failed = c.loop-row.failed } in
     let now : State g.row.L.Denot = record { steps = inside.steps; stack = a ∷ below; store = inside.store; faults = inside.faults } in
     let so : HasTurned g.B.Body body s now c.loop-row._row a.fuel c.top.inside.fuel = subst (λ (t : State g.row.L.Denot). HasTurned g.B.Body body s (record { steps = t.steps; stack = a ∷ t.stack; store = t.store; faults = t.faults }) c.loop-row._row a.fuel c.top.inside.fuel) (sym c.self-in-loop-row.view_is) c.loop-row.invariant.turned in
     let w : Worked g.row.L.Denot = c.in_ok-moved.field-0 in
@@ -28,8 +28,9 @@ loop-row-preserved g c =
     let paid : Activation g.row.L.Denot = record a { local = w.local; answer = answer.Nothing; fuel = a.fuel - w.works - 1 } in
     let reply = subst (λ (r : Reply g.row.L.Denot). IsReply r paid inside.store c.answer.new.self stop.ask (effect (inside.steps + w.works) inside.store paid stop.ask)) c.in-Told.is (c.in_ok-told.ensures (inside.steps + w.works) paid (sym c.as_slice.ensures.value)) in
     record {
-      turned = told-row g.B.Body body s now a below FUEL_MOST c.loop-row._row c.top.inside.fuel w stop c.in-Told.told c.answer.new.self so refl row c.in-Some-stop.is reply;
+      turned = told-row g.B.Body body s now a (record paid { answer = c.in-Told.told }) below FUEL_MOST c.loop-row._row c.top.inside.fuel w stop c.answer.new.self so refl row c.in-Some-stop.is reply;
       within = c.loop-row.invariant.within;
+      parent = c.loop-row.invariant.parent;
     }
 
 pub returns-in-Fault : goal.returns-in-Fault
@@ -38,7 +39,7 @@ returns-in-Fault g c =
     let s : State g.row.L.Denot = c.args.self.now in
     let inside = c.self-in-loop-row.inside in
     let below = inside.stack in
-    let a : Activation g.row.L.Denot = record { path = c.loop-row.path; local = c.loop-row.local; answer = c.loop-row.answer; fuel = c.loop-row.left; holdings = c.top.inside.holdings.items; children = c.top.inside.children } in
+    let a : Activation g.row.L.Denot = record { path = c.loop-row.path; local = c.loop-row.local; answer = c.loop-row.answer; fuel = c.loop-row.left; holdings = c.top.inside.holdings.items; children = c.top.inside.children; failed = c.loop-row.failed } in
     let now : State g.row.L.Denot = record { steps = inside.steps; stack = a ∷ below; store = inside.store; faults = inside.faults } in
     let so : HasTurned g.B.Body body s now c.loop-row._row a.fuel c.top.inside.fuel = subst (λ (t : State g.row.L.Denot). HasTurned g.B.Body body s (record { steps = t.steps; stack = a ∷ t.stack; store = t.store; faults = t.faults }) c.loop-row._row a.fuel c.top.inside.fuel) (sym c.self-in-loop-row.view_is) c.loop-row.invariant.turned in
     let w : Worked g.row.L.Denot = c.in_ok-moved.field-0 in
@@ -56,7 +57,7 @@ returns-in-Own g c =
     let s : State g.row.L.Denot = c.args.self.now in
     let inside = c.self-in-loop-row.inside in
     let below = inside.stack in
-    let a : Activation g.row.L.Denot = record { path = c.loop-row.path; local = c.loop-row.local; answer = c.loop-row.answer; fuel = c.loop-row.left; holdings = c.top.inside.holdings.items; children = c.top.inside.children } in
+    let a : Activation g.row.L.Denot = record { path = c.loop-row.path; local = c.loop-row.local; answer = c.loop-row.answer; fuel = c.loop-row.left; holdings = c.top.inside.holdings.items; children = c.top.inside.children; failed = c.loop-row.failed } in
     let now : State g.row.L.Denot = record { steps = inside.steps; stack = a ∷ below; store = inside.store; faults = inside.faults } in
     let so : HasTurned g.B.Body body s now c.loop-row._row a.fuel c.top.inside.fuel = subst (λ (t : State g.row.L.Denot). HasTurned g.B.Body body s (record { steps = t.steps; stack = a ∷ t.stack; store = t.store; faults = t.faults }) c.loop-row._row a.fuel c.top.inside.fuel) (sym c.self-in-loop-row.view_is) c.loop-row.invariant.turned in
     let w : Worked g.row.L.Denot = c.in_ok-moved.field-0 in
@@ -73,7 +74,7 @@ returns g c =
     let body = c.args.body.now in
     let s : State g.row.L.Denot = c.args.self.now in
     let at_loop = c.loop-row.self in
-    let a : Activation g.row.L.Denot = record { path = c.loop-row.path; local = c.loop-row.local; answer = c.loop-row.answer; fuel = c.loop-row.left; holdings = c.top.inside.holdings.items; children = c.top.inside.children } in
+    let a : Activation g.row.L.Denot = record { path = c.loop-row.path; local = c.loop-row.local; answer = c.loop-row.answer; fuel = c.loop-row.left; holdings = c.top.inside.holdings.items; children = c.top.inside.children; failed = c.loop-row.failed } in
     let place = c.place-place.result in
     let booked : State g.row.L.Denot → State g.row.L.Denot = λ t. state_after t t.stack a.path place (faults kind.Fuel) in
     elim c.if-row-fuel.branch [
