@@ -25,12 +25,12 @@ use Rattle.serial_elision.proofs.TaskSteps.{child-ends, ends_last, entry_own, fi
 
 -- ---- whether a task has failed
 
-failed-at : (faults : List Fault) (j : ℕ) (fault : Fault) → slice_get faults j ≡ Some fault → has_failed faults fault.path ≡ true
+pub failed-at : (faults : List Fault) (j : ℕ) (fault : Fault) → slice_get faults j ≡ Some fault → has_failed faults fault.path ≡ true
 failed-at [] j fault at = absurd (cc)
 failed-at (f ∷ faults) zero fault at = let same : f ≡ fault = cc in let itself = path_is-itself fault.path in rw same grind
 failed-at (f ∷ faults) (suc j) fault at = let rest = failed-at faults j fault at in grind
 
-failed-from : (faults : List Fault) (path : List ℕ) → has_failed faults path ≡ true → (j : ℕ) × (fault : Fault) × (slice_get faults j ≡ Some fault) × (fault.path ≡ path)
+pub failed-from : (faults : List Fault) (path : List ℕ) → has_failed faults path ≡ true → (j : ℕ) × (fault : Fault) × (slice_get faults j ≡ Some fault) × (fault.path ≡ path)
 failed-from [] path is = absurd (cc)
 failed-from (f ∷ faults) path is = by (pointwise nat_eq f.path path) refl where
   by : (here : Bool) → pointwise nat_eq f.path path ≡ here → (j : ℕ) × (fault : Fault) × (slice_get (f ∷ faults) j ≡ Some fault) × (fault.path ≡ path)
