@@ -1,5 +1,5 @@
 -- Frames of a record that were given so before a call and after it, whatever failed meanwhile.
-use Rattle.std.proofs.Common.{◌≡◌, ◌≢◌, inl, inr, ℕ, Option, None, Some, refl, sym, ap, ◌∙◌}
+use Rattle.std.proofs.Common.{◌≡◌, ◌≢◌, inl, inr, ℕ, Option, None, Some, IsSome, refl, sym, ap, ◌∙◌}
 use Rattle.std.proofs.lemmas.Bool.{cases_eq}
 use Rattle.std.proofs.lemmas.Option.{same_Some}
 use Rattle.std.specs.Option.{option_map}
@@ -43,3 +43,11 @@ one-failed-given before after (Some parent) only = λ number. elim (cases_eq num
 pub others-given : (before after : NumberedFrames) (number : ℕ) (frame : Option LiveFrame) → IsOnlyLive before after number frame → (other : ℕ) → other ≢ number
     → option_map as_given (live_at after other) ≡ option_map as_given (live_at before other)
 others-given before after number frame only other differs = ap (option_map as_given) (only.others other differs)
+
+-- and who is there is there still
+pub some-given : (before after : NumberedFrames) (number : ℕ) → option_map as_given (live_at after number) ≡ option_map as_given (live_at before number) → IsSome (live_at before number) → IsSome (live_at after number)
+some-given before after number same there = by (live_at after number) (live_at before number) same there where
+  by : (now was : Option LiveFrame) → option_map as_given now ≡ option_map as_given was → IsSome was → IsSome now
+  by (Some frame) was is some = refl
+  by None None is some = some
+  by None (Some frame) is some = absurd (cc)

@@ -72,14 +72,14 @@ pub state-kept : (base kept : KeptView) (name : Option Script) (run : List ℕ) 
 state-kept base kept name run state same_kept same_name same_run same_state = with-state base name run state base.state same_name same_run same_state ∙ same_kept
 
 -- a frame that has left, once the queues had counted a deed of it and a fault was booked
-pub dry-kept : (base kept : KeptView) (m n : ℕ) (name : Option Script) (run : List ℕ) (state : QueueState) (faults_are : List Fault) (fault : Fault) → base ≡ kept → m ≡ n → name ≡ base.name → run ≡ base.run
-    → state ≡ after_deed base.state m → faults_are ≡ base.faults ++ fault ∷ []
-    → ◌≡◌ {A = KeptView} (record base { name = name; run = run; state = state; faults = faults_are }) (record kept { state = after_deed kept.state n; faults = kept.faults ++ fault ∷ [] })
-dry-kept base kept m n name run state faults_are fault same_kept same_number same_name same_run same_state same_faults =
-    ap {B = KeptView} (λ x. record base { name = name; run = run; state = state; faults = x }) same_faults
-    ∙ with-state (record base { faults = base.faults ++ fault ∷ [] }) name run state (after_deed base.state m) same_name same_run same_state
-    ∙ ap {B = KeptView} (λ (k : KeptView). record k { state = after_deed k.state m; faults = k.faults ++ fault ∷ [] }) same_kept
-    ∙ ap {B = KeptView} (λ j. record kept { state = after_deed kept.state j; faults = kept.faults ++ fault ∷ [] }) same_number
+pub dry-kept : (base kept booked : KeptView) (m n : ℕ) (name : Option Script) (run : List ℕ) (state : QueueState) (fault : Fault) → base ≡ kept → m ≡ n → name ≡ base.name → run ≡ base.run
+    → state ≡ after_deed base.state m → booked ≡ record base { name = name; run = run; state = state; live = booked.live; faults = base.faults ++ fault ∷ [] }
+    → booked ≡ record kept { state = after_deed kept.state n; live = booked.live; faults = kept.faults ++ fault ∷ [] }
+dry-kept base kept booked m n name run state fault same_kept same_number same_name same_run same_state is =
+    is
+    ∙ with-state (record base { live = booked.live; faults = base.faults ++ fault ∷ [] }) name run state (after_deed base.state m) same_name same_run same_state
+    ∙ ap {B = KeptView} (λ (k : KeptView). record k { state = after_deed k.state m; live = booked.live; faults = k.faults ++ fault ∷ [] }) same_kept
+    ∙ ap {B = KeptView} (λ j. record kept { state = after_deed kept.state j; live = booked.live; faults = kept.faults ++ fault ∷ [] }) same_number
 
 module _ {B L : Type 0} (G : Ghosts B L) (kept : KeptView) (mid : Mid B L) (asks : Ask L) (has : HasIt G kept (asking mid asks)) where
   abbrev plan : Plan B L

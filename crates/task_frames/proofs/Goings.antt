@@ -83,12 +83,12 @@ module _ {B L : Type 0} (G : Ghosts B L) (kept : KeptView) (frame : FrameAtCoreV
       ∙ ap {B = Option Progress} (λ k. Some (record { number = task.number; path = task.path; done = k })) done-is
 
   -- what it holds, by name
-  pub told-now : IsAsRead G task.plan kept.reading task.number (record { parent = here.parent; path = task.path; done = task.done; holdings = task.holdings })
+  pub told-now : IsAsRead G task.plan kept.reading task.number (record { parent = here.parent; path = task.path; done = task.done; holdings = task.holdings; failed = here.failed })
   told-now =
       let told = has.core.frames.told task.number here has.of.live in
-      subst (λ hs. IsAsRead G task.plan kept.reading task.number (record { parent = here.parent; path = task.path; done = task.done; holdings = hs })) has.of.holdings
-      (subst (λ k. IsAsRead G task.plan kept.reading task.number (record { parent = here.parent; path = task.path; done = k; holdings = here.holdings })) done-is
-      (subst (λ path. IsAsRead G task.plan kept.reading task.number (record { parent = here.parent; path = path; done = here.done; holdings = here.holdings })) has.of.path told))
+      subst (λ hs. IsAsRead G task.plan kept.reading task.number (record { parent = here.parent; path = task.path; done = task.done; holdings = hs; failed = here.failed })) has.of.holdings
+      (subst (λ k. IsAsRead G task.plan kept.reading task.number (record { parent = here.parent; path = task.path; done = k; holdings = here.holdings; failed = here.failed })) done-is
+      (subst (λ path. IsAsRead G task.plan kept.reading task.number (record { parent = here.parent; path = path; done = here.done; holdings = here.holdings; failed = here.failed })) has.of.path told))
 
   pub named : map (give_in kept.reading) task.holdings ≡ gives_at G task.plan task.path task.done top
   named =
@@ -103,16 +103,16 @@ module _ {B L : Type 0} (G : Ghosts B L) (kept : KeptView) (frame : FrameAtCoreV
 
 -- The activation at its next step: it has this local, is told this, and has paid for the step. It holds the same, and has the same
 -- number of children.
-pub record GoesWith {L : Type 0} (top : Activation L) (local : L) (said : Answer) (next : Activation L) : Type 0 where
+pub record GoesWith {L : Type 0} (was : Activation L) (local : L) (said : Answer) (next : Activation L) : Type 0 where
   pub local_is : local ≡ next.local
-  pub fuel : next.fuel ≡ top.fuel - 1
+  pub fuel : next.fuel ≡ was.fuel - 1
   pub answer_is : said ≡ next.answer
-  pub holdings : next.holdings ≡ top.holdings
-  pub children : next.children ≡ top.children
+  pub holdings : next.holdings ≡ was.holdings
+  pub children : next.children ≡ was.children
 
 -- where it is told something, and nothing else
-pub goes-told : {L : Type 0} (top : Activation L) (local : L) (said : Answer) → GoesWith top local said (with_answer (after_next top local) said)
-goes-told top local said = record { local_is = refl; fuel = refl; answer_is = refl; holdings = refl; children = refl }
+pub goes-told : {L : Type 0} (was : Activation L) (local : L) (said : Answer) → GoesWith was local said (with_answer (after_next was local) said)
+goes-told was local said = record { local_is = refl; fuel = refl; answer_is = refl; holdings = refl; children = refl }
 
 module _ {B L : Type 0} (G : Ghosts B L) (kept : KeptView) (mid : Mid B L) (asks : Ask L) (has : HasIt G kept (asking mid asks)) (begun : MayBegin kept mid.task.number) where
   pub is-asking : IsAsking G mid.task.plan mid.task.path mid.task.done has.is.alone.top mid.local asks
@@ -186,8 +186,8 @@ module _ {B L : Type 0} (G : Ghosts B L) (kept : KeptView) (mid : Mid B L) (asks
     abbrev plan : Plan B L
     plan = mid.task.plan
 
-    abbrev s : Script
-    s = script G plan
+    abbrev told-by : Script
+    told-by = script G plan
 
     abbrev f : LiveFrame
     f = has.of.frame
@@ -202,10 +202,10 @@ module _ {B L : Type 0} (G : Ghosts B L) (kept : KeptView) (mid : Mid B L) (asks
     own-live = (own G kept (asking mid asks) has).1
 
     -- its failed children, where it neither spawns nor takes a Sync
-    still-counted : (then_live : NumberedFrames) → IsOnlyLive kept.live then_live n (Some (record f { done = mid.task.done + 1 })) → is_spawn does ≡ false → does ≢ deed.Sync → AreCounted s then_live kept.faults
+    still-counted : (then_live : NumberedFrames) → IsOnlyLive kept.live then_live n (Some (record f { done = mid.task.done + 1 })) → is_spawn does ≡ false → does ≢ deed.Sync → AreCounted told-by then_live kept.faults
     still-counted then_live only no_spawn no_wait =
-        counted.goes s kept.live kept.faults has.core.counted then_live n f has.of.live (record f { done = mid.task.done + 1 }) only refl refl mid.task.path mid.task.done has.of.path f-done refl
-        (still-one s mid.task.path mid.task.done does goes.deed no_spawn no_wait)
+        counted.goes told-by kept.live kept.faults has.core.counted then_live n f has.of.live (record f { done = mid.task.done + 1 }) only refl refl mid.task.path mid.task.done has.of.path f-done refl
+        (still-one told-by mid.task.path mid.task.done does goes.deed no_spawn no_wait)
 
     -- a step of which neither the queues nor the objects hear
     pub runs-quiet : (after : KeptView) → IsOnlyLive kept.live after.live n (Some (record has.of.frame { done = mid.task.done + 1 }))
@@ -215,9 +215,9 @@ module _ {B L : Type 0} (G : Ghosts B L) (kept : KeptView) (mid : Mid B L) (asks
     runs-quiet after only is no_queue no_object no_spawn no_wait =
         subst (λ k. IsStep G kept k mid.task (step.Runs (record { task = one_on mid.task; stage = Ready mid.local said }))) (sym is)
         (runs (record kept { reading = gone_on_by kept.reading n 1; live = after.live }) (record f { done = mid.task.done + 1 }) has.of.path refl has.of.holdings only refl refl refl refl
-        (queues.others s (lawful G kept (asking mid asks) has) kept.reading kept.state kept.turns has.core.queues n mid.task.path mid.task.done (known G kept (asking mid asks) has)
+        (queues.others told-by (lawful G kept (asking mid asks) has) kept.reading kept.state kept.turns has.core.queues n mid.task.path mid.task.done (known G kept (asking mid asks) has)
         does goes.deed no_queue stands-next.left)
-        (objects.others s (lawful G kept (asking mid asks) has) kept.reading kept.versions kept.live kept.objects has.core.objects n mid.task.path mid.task.done (known G kept (asking mid asks) has)
+        (objects.others told-by (lawful G kept (asking mid asks) has) kept.reading kept.versions kept.live kept.objects has.core.objects n mid.task.path mid.task.done (known G kept (asking mid asks) has)
         f has.of.live after.live does goes.deed has.is.alone.stands.left no_object no_spawn begun.ready only)
         (live.goes G plan kept.reading kept.state kept.live kept.frames has.core.frames n f has.of.live a own-live after.live mid.task.path mid.task.done has.is.alone.top next
         has.of.path f-done has.is.alone.stands stands-next goes.names (begun.turn a own-live) only)
@@ -231,16 +231,16 @@ module _ {B L : Type 0} (G : Ghosts B L) (kept : KeptView) (mid : Mid B L) (asks
     runs-synced after only is wait alone =
         subst (λ k. IsStep G kept k mid.task (step.Runs (record { task = one_on mid.task; stage = Ready mid.local said }))) (sym is)
         (runs (record kept { reading = gone_on_by kept.reading n 1; live = after.live }) (synced_at (mid.task.done + 1) f) has.of.path refl has.of.holdings only refl refl refl refl
-        (queues.others s (lawful G kept (asking mid asks) has) kept.reading kept.state kept.turns has.core.queues n mid.task.path mid.task.done (known G kept (asking mid asks) has)
+        (queues.others told-by (lawful G kept (asking mid asks) has) kept.reading kept.state kept.turns has.core.queues n mid.task.path mid.task.done (known G kept (asking mid asks) has)
         does goes.deed (ap is_queue_deed wait) stands-next.left)
-        (objects.as-before s (gone_on_by kept.reading n 1) kept.versions then-live after.live kept.objects given-so
-        (objects.others s (lawful G kept (asking mid asks) has) kept.reading kept.versions kept.live kept.objects has.core.objects n mid.task.path mid.task.done (known G kept (asking mid asks) has)
+        (objects.as-before told-by (gone_on_by kept.reading n 1) kept.versions then-live after.live kept.objects given-so
+        (objects.others told-by (lawful G kept (asking mid asks) has) kept.reading kept.versions kept.live kept.objects has.core.objects n mid.task.path mid.task.done (known G kept (asking mid asks) has)
         f has.of.live then-live does goes.deed has.is.alone.stands.left (ap is_object_deed wait) (ap is_spawn wait) begun.ready only-then))
         (live.as-before G plan (gone_on_by kept.reading n 1) kept.state then-live kept.frames
         (live.goes G plan kept.reading kept.state kept.live kept.frames has.core.frames n f has.of.live a own-live then-live mid.task.path mid.task.done has.is.alone.top next
         has.of.path f-done has.is.alone.stands stands-next goes.names (begun.turn a own-live) only-then)
         after.live given-so)
-        (counted.synced s kept.live kept.faults has.core.counted after.live n f has.of.live mid.task.path mid.task.done has.of.path f-done (goes.deed ∙ wait) alone only)
+        (counted.synced told-by kept.live kept.faults has.core.counted after.live n f has.of.live mid.task.path mid.task.done has.of.path f-done (goes.deed ∙ wait) alone only)
         a (record { changed = own-live; others = λ m other. refl }) (has.back a own-live) (ap is_spawn wait) (λ is_wait. alone))
       where
         -- the record in which it has its failed children still
@@ -266,9 +266,9 @@ module _ {B L : Type 0} (G : Ghosts B L) (kept : KeptView) (mid : Mid B L) (asks
         subst (λ k. IsStep G kept k mid.task (step.Runs (record { task = one_on mid.task; stage = Ready mid.local said }))) (sym is)
         (runs (record kept { versions = after_write kept.versions n place value; reading = gone_on_by kept.reading n 1; live = after.live }) (record f { done = mid.task.done + 1 }) has.of.path refl has.of.holdings
         only refl refl refl refl
-        (queues.others s (lawful G kept (asking mid asks) has) kept.reading kept.state kept.turns has.core.queues n mid.task.path mid.task.done (known G kept (asking mid asks) has)
+        (queues.others told-by (lawful G kept (asking mid asks) has) kept.reading kept.state kept.turns has.core.queues n mid.task.path mid.task.done (known G kept (asking mid asks) has)
         does goes.deed (ap is_queue_deed written) stands-next.left)
-        (objects.written s (lawful G kept (asking mid asks) has) kept.reading kept.versions kept.live kept.objects has.core.objects n mid.task.path mid.task.done (known G kept (asking mid asks) has)
+        (objects.written told-by (lawful G kept (asking mid asks) has) kept.reading kept.versions kept.live kept.objects has.core.objects n mid.task.path mid.task.done (known G kept (asking mid asks) has)
         f has.of.live after.live place value object origin (after_write kept.versions n place value) (goes.deed ∙ written) has.is.alone.stands.left stands may named refl begun.ready only)
         (live.goes G plan kept.reading kept.state kept.live kept.frames has.core.frames n f has.of.live a own-live after.live mid.task.path mid.task.done has.is.alone.top next
         has.of.path f-done has.is.alone.stands stands-next goes.names (begun.turn a own-live) only)
@@ -284,9 +284,9 @@ module _ {B L : Type 0} (G : Ghosts B L) (kept : KeptView) (mid : Mid B L) (asks
         let no_wait : does ≢ deed.Sync = λ same. absurd (false≢true (sym (ap is_queue_deed same) ∙ queue)) in
         subst (λ k. IsStep G kept k mid.task (step.Runs (record { task = one_on mid.task; stage = Ready mid.local said }))) (sym is)
         (runs (record kept { state = after_deed kept.state n; reading = gone_on_by kept.reading n 1; live = after.live }) (record f { done = mid.task.done + 1 }) has.of.path refl has.of.holdings only refl refl refl refl
-        (queues.used s (lawful G kept (asking mid asks) has) kept.reading kept.state kept.turns has.core.queues n mid.task.path mid.task.done (known G kept (asking mid asks) has)
+        (queues.used told-by (lawful G kept (asking mid asks) has) kept.reading kept.state kept.turns has.core.queues n mid.task.path mid.task.done (known G kept (asking mid asks) has)
         does (after_deed kept.state n) goes.deed queue no_spawn no_making stands-next.left act refl)
-        (objects.others s (lawful G kept (asking mid asks) has) kept.reading kept.versions kept.live kept.objects has.core.objects n mid.task.path mid.task.done (known G kept (asking mid asks) has)
+        (objects.others told-by (lawful G kept (asking mid asks) has) kept.reading kept.versions kept.live kept.objects has.core.objects n mid.task.path mid.task.done (known G kept (asking mid asks) has)
         f has.of.live after.live does goes.deed has.is.alone.stands.left no_object no_spawn begun.ready only)
         (live.goes-used G plan kept.reading kept.state kept.live kept.frames has.core.frames n f has.of.live a own-live after.live has.core.queues.tree act
         mid.task.path mid.task.done has.is.alone.top next (after_deed kept.state n) has.of.path f-done has.is.alone.stands stands-next goes.names (begun.turn a own-live) refl only)

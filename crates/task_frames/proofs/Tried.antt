@@ -1,5 +1,5 @@
 -- A frame at the core whose next step is tried: its body says what it asks for, or it has no fuel for that.
-use Rattle.std.proofs.Common.{◌≡◌, ℕ, ◌+◌, ◌-◌, ◌<◌, false, None, List, [], ◌∷◌, ◌++◌, length, sym, ap, subst, ◌∙◌, arith}
+use Rattle.std.proofs.Common.{◌≡◌, ℕ, ◌+◌, ◌-◌, ◌<◌, false, Option, None, Some, List, [], ◌∷◌, ◌++◌, length, refl, sym, ap, subst, ◌∙◌, arith}
 use Rattle.std.proofs.lemmas.Option.{same_Some}
 use Rattle.swan_model.specs.declared.body.Answer.{Answer}
 use Rattle.swan_model.specs.declared.body.Ask.{Ask}
@@ -198,11 +198,6 @@ pub left-over : (kept other after : KeptView) (n m : ℕ) → other ≡ kept →
 left-over kept other after n m same number name run is only =
     subst (λ (k : KeptView). (after ≡ record k { state = after_finish k.state m; versions = objects_after_finish k.versions m; reading = gone_on_by k.reading m 1; live = after.live; turns = without k.turns m })
     × IsOnlyLive k.live after.live m None) same (left-so other after n m number name run is only)
-
--- what is kept, with one fault more
-pub booked-kept : (kept now booked : KeptView) (fault : Fault) → booked ≡ record kept { live = booked.live; faults = kept.faults ++ fault ∷ [] } → kept ≡ now
-    → booked ≡ record now { live = booked.live; faults = now.faults ++ fault ∷ [] }
-booked-kept kept now booked fault is same = is ∙ ap {B = KeptView} (λ (k : KeptView). record k { live = booked.live; faults = k.faults ++ fault ∷ [] }) same
 
 -- a step is the same whether or not its unit of fuel is taken
 pub paid-step : {B L : Type 0} (G : Ghosts B L) (before after : KeptView) (task : TaskView B L) (fuel : ℕ) (its : Step B L) → IsStep G before after (record task { fuel = fuel }) its → IsStep G before after task its

@@ -28,11 +28,11 @@ sync-requires-clause-turn g c =
     over (λ k n. IsOnTurn k.name k.state n) _ _ _ _ c.self.view_is c.number-number.ensures
     (on-turn-so g.B.Body _ _ c.requires.has c.requires.begun (over (λ k n. (m : _) → ¬ IsLiveChild k.live n m) _ _ _ _ (sym c.self.view_is) (sym c.number-number.ensures) c.in_default.ensures.none))
 
-pub note_sync-requires-clause-few : goal.note_sync-requires-clause-few
-note_sync-requires-clause-few g c κs within = subst (λ k. k < COUNT_MOST) (sym c.done.ensures) (steps-few g.B.Body _ _ _ c.requires.has)
+pub note_sync-failed-requires-clause-few : goal.note_sync-failed-requires-clause-few
+note_sync-failed-requires-clause-few g c κs within = subst (λ k. k < COUNT_MOST) (sym c.done.ensures) (steps-few g.B.Body _ _ _ c.requires.has)
 
-pub note_sync-requires-clause-live : goal.note_sync-requires-clause-live
-note_sync-requires-clause-live g c κs within =
+pub note_sync-failed-requires-clause-live : goal.note_sync-failed-requires-clause-live
+note_sync-failed-requires-clause-live g c κs within =
     over (λ k n. IsSome (live_at k.live n)) _ _ _ _ c.self.view_is c.number-number.ensures (live-here g.B.Body _ _ c.requires.has)
 
 pub is_told-frame-requires-after_bounds : goal.is_told-frame-requires-after_bounds
