@@ -40,7 +40,7 @@ fn each_ask_is_answered(rt: HostRuntime) -> Result<(), Fail> {
             "pop:0 push:1:0 empty:0 push:1:0 read:2 push:1:0 queue push:1:0 object:5 push:1:0 write:2:-3 work sync push:1:99",
         ],
         fuel: 100,
-        out: "10\n0\n7\n4\n5\n99\n",
+        out: "10\n0\n7\n4\n5\n0\n",
         report: "object count int -3\nobject name bytes ab0c\nleft jobs 1\nfaults 0\n",
     };
     let turns = [
@@ -68,7 +68,7 @@ fn a_sync_waits_for_a_child(rt: HostRuntime) -> Result<(), Fail> {
     let row = Row {
         tasks: &["spawn:1:10: sync push:1:1", "work work"],
         fuel: 50,
-        out: "1\n",
+        out: "0\n",
         report: UNTOUCHED,
     };
     let parent_first = [

@@ -1,7 +1,7 @@
 // A body for tests: its tasks go through one list of asks.
-ghost use Rattle.std.specs.Prelude.{◌≡◌, ℕ, ◌+◌, IfOk, pos, if◌then◌else◌, slice_get};
+ghost use Rattle.std.specs.Prelude.{◌≡◌, ℕ, ◌+◌, ◌-◌, ◌^◌, IfOk, min, pos, if◌then◌else◌, slice_get};
 ghost use Rattle.std.specs.Option.{option_map_or};
-ghost use Rattle.swan_model.specs.declared.body.Answer.TheVariants.{Start, Nothing, Item, Flag, Place};
+ghost use Rattle.swan_model.specs.declared.body.Answer.TheVariants.{Start, Nothing, Item, Flag, Place, Caught};
 ghost use Rattle.swan_model.specs.declared.body.Ask.TheVariants.{Push, Finish};
 ghost use Rattle.swan_model.specs.declared.value.Value.TheVariants.{Int};
 
@@ -37,7 +37,7 @@ impl Body for AskList {
         (λ asked. (
           at + 1,
           elim asked [
-            | Push place value ↦ Push place (elim answer [ Item item ↦ item | Flag flag ↦ Int (pos (if flag then 1 else 0)) | Place made ↦ Int (pos made) | _ ↦ value ])
+            | Push place value ↦ Push place (elim answer [ Item item ↦ item | Flag flag ↦ Int (pos (if flag then 1 else 0)) | Place made ↦ Int (pos made) | Caught failed ↦ Int (pos (min failed (2 ^ 63 - 1))) | _ ↦ value ])
             | other ↦ other
           ],
         ))
@@ -86,7 +86,7 @@ fn step(
 
 /// An ask of the list, as a step asks it that is told this.
 fn asked(alloc: Global, ask: &Ask<usize>, answer: Answer) -> Result<Ask<usize>, NoMemory>
-    ensures { IfOk result (λ asked. asked ≡ elim ask.now [ Push place value ↦ Push place (elim answer [ Item item ↦ item | Flag flag ↦ Int (pos (if flag then 1 else 0)) | Place made ↦ Int (pos made) | _ ↦ value ]) | other ↦ other ]) }
+    ensures { IfOk result (λ asked. asked ≡ elim ask.now [ Push place value ↦ Push place (elim answer [ Item item ↦ item | Flag flag ↦ Int (pos (if flag then 1 else 0)) | Place made ↦ Int (pos made) | Caught failed ↦ Int (pos (min failed (2 ^ 63 - 1))) | _ ↦ value ]) | other ↦ other ]) }
 {
     match ask {
         Ask::Push(place, value) => Ok(Ask::Push(*place, told(answer, value)?)),
@@ -96,12 +96,13 @@ fn asked(alloc: Global, ask: &Ask<usize>, answer: Answer) -> Result<Ask<usize>, 
 
 /// What the step is told, as a value.
 fn told(answer: Answer, otherwise: &Value) -> Result<Value, NoMemory>
-    ensures { IfOk result (λ value. value ≡ elim answer [ Item item ↦ item | Flag flag ↦ Int (pos (if flag then 1 else 0)) | Place made ↦ Int (pos made) | _ ↦ otherwise.now ]) }
+    ensures { IfOk result (λ value. value ≡ elim answer [ Item item ↦ item | Flag flag ↦ Int (pos (if flag then 1 else 0)) | Place made ↦ Int (pos made) | Caught failed ↦ Int (pos (min failed (2 ^ 63 - 1))) | _ ↦ otherwise.now ]) }
 {
     match answer {
         Answer::Item(item) => Ok(item),
         Answer::Flag(flag) => Ok(Value::Int(i64::from(flag))),
         Answer::Place(place) => Ok(Value::Int(i64::from(place))),
+        Answer::Caught(failed) => Ok(Value::Int(failed.min(i64::MAX as u64) as i64)),
         Answer::Start | Answer::Nothing => otherwise.copy(),
     }
 }

@@ -6,6 +6,8 @@
 #![tactic(auto)]
 
 mod ask_list;
+#[cfg(test)]
+mod caught_tests;
 mod firsts;
 #[cfg(test)]
 mod rows;

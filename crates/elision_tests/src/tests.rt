@@ -25,8 +25,8 @@ fn run(rt: &impl Abort, alloc: Global, rows: &[(&str, u64, &str)]) -> Result<(),
 #[test]
 fn each_ask_is_answered(rt: HostRuntime) -> Result<(), Fail> {
     let words = "pop:0 push:1:0 empty:0 push:1:0 read:2 push:1:0 queue push:1:0 object:5 push:1:0 \
-        read:3 push:1:0 write:2:-3 work sync push:1:99 finish";
-    let out = b"10\n0\n7\n4\n5\n\xab\x0c\n99\n";
+        read:3 push:1:0 write:2:-3 sync push:1:98 work push:1:99 finish";
+    let out = b"10\n0\n7\n4\n5\n\xab\x0c\n0\n99\n";
     let report = "object count int -3\nobject name bytes ab0c\nleft jobs 1\nfaults 0\n";
     assert!(rt; leaves(rt.alloc(), words, 100, out.as_slice(), report)?);
     Ok(())

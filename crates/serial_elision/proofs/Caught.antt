@@ -1,7 +1,7 @@
 -- A task's failed children are those of its children since its last Sync that ended by a fault.
-use Rattle.std.proofs.Common.{◌≡◌, ◌⊎◌, inl, inr, ℕ, zero, suc, ◌+◌, ◌<◌, ◌≤◌, ◌&&◌, Bool, true, false, cond, nat_le, List, [], ◌∷◌, ◌++◌, Some, refl, sym, ap, subst, ◌∙◌, arith}
+use Rattle.std.proofs.Common.{◌≡◌, ◌⊎◌, inl, inr, ℕ, zero, suc, ◌+◌, ◌<◌, ◌≤◌, Bool, true, false, cond, nat_le, List, [], ◌∷◌, ◌++◌, refl, sym, ap, subst, ◌∙◌, arith}
 use Rattle.std.proofs.lemmas.Bool.{cases_lt}
-use Rattle.std.proofs.lemmas.Option.{slice_get-get_or, slice_get_within, get_or_from_slice_get}
+use Rattle.std.proofs.lemmas.Option.{slice_get_within, get_or_from_slice_get}
 use Rattle.swan_model.specs.declared.body.Body.{Ghosts}
 use Rattle.swan_model.specs.declared.fault.Fault.{Fault}
 use Rattle.swan_model.specs.declared.plan.Plan.{Plan}
@@ -21,9 +21,9 @@ use Rattle.swan_model.proofs.Places.{passing}
 use Rattle.swan_model.proofs.ScriptSteps.{deed_is}
 use Rattle.swan_model.proofs.TaskEntries.{own_place}
 use Rattle.swan_model.proofs.Times.{times_rise}
-use Rattle.serial_elision.specs.Caught.{children_by, children_by_sync, failed_children, has_failed, is_sync, once_ended}
+use Rattle.serial_elision.specs.Caught.{children_by, children_by_sync, failed_children, has_failed, is_sync}
 use Rattle.serial_elision.proofs.Endings.{entry_now}
-use Rattle.serial_elision.proofs.Onward.{HasStood, stood-before}
+use Rattle.serial_elision.proofs.Onward.{stood-before}
 use Rattle.serial_elision.proofs.TaskSteps.{entry_own, top_path}
 use Rattle.serial_elision.proofs.Turns.{FitsDeed, next_deed, step-fits}
 

@@ -5,7 +5,7 @@ use Rattle.swan_model.specs.declared.body.Body.{Ghosts}
 use Rattle.swan_model.specs.declared.plan.Plan.{Plan}
 use Rattle.swan_model.specs.declared.plan.TheConstants.{FUEL_MOST}
 use Rattle.swan_model.specs.declared.script.Deed.{Deed}
-use Rattle.swan_model.specs.Elision.{most_steps, serial}
+use Rattle.swan_model.specs.Elision.{serial}
 use Rattle.swan_model.specs.SerialState.{Activation, State}
 use Rattle.swan_model.specs.SerialStep.{Effect, goes_on, spawns, ends, faults, state_after, effect_of, step_on, with_failed}
 use Rattle.serial_elision.specs.Bounds.{MayFail}

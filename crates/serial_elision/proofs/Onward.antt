@@ -1,18 +1,17 @@
 -- How a task goes on after a spawn: it stands at its next step once the child has ended, whatever the child and the tasks below
 -- it did, with one more failed child where the child ended by a fault.
-use Rattle.std.proofs.Common.{◌≡◌, ◌⊎◌, inl, inr, ℕ, zero, suc, ◌+◌, ◌<◌, ◌≤◌, Bool, true, false, cond, nat_eq, List, [], ◌∷◌, ◌++◌, Some, length, refl, sym, ap, subst, ◌∙◌, arith}
+use Rattle.std.proofs.Common.{◌≡◌, ◌⊎◌, inl, inr, ℕ, zero, suc, ◌+◌, Bool, true, false, cond, nat_eq, List, [], ◌∷◌, Some, length, refl, sym, ap, subst, ◌∙◌, arith}
 use Rattle.std.proofs.lemmas.Bool.{false_from_ne_true}
 use Rattle.std.proofs.lemmas.Option.{slice_get-get_or}
 use Rattle.std.specs.Cmp.Lexicographic.{pointwise}
-use Rattle.std.specs.List.{list_any}
 use Rattle.std.specs.Prelude.{slice_get}
 use Rattle.swan_model.specs.declared.body.Body.{Ghosts}
 use Rattle.swan_model.specs.declared.fault.Fault.{Fault}
 use Rattle.swan_model.specs.declared.plan.Plan.{Plan}
-use Rattle.swan_model.specs.Elision.{most_steps, outcome, serial}
+use Rattle.swan_model.specs.Elision.{outcome, serial}
 use Rattle.swan_model.specs.Script.{is_end, script}
 use Rattle.swan_model.specs.SerialState.{Activation, State, Store}
-use Rattle.swan_model.specs.SerialStep.{Effect, goes_on, spawns, ends, faults, state_after, effect_of, with_failed}
+use Rattle.swan_model.specs.SerialStep.{Effect, goes_on, spawns, ends, faults, state_after, effect_of}
 use Rattle.swan_model.specs.SerialTime.{time, times}
 use Rattle.swan_model.specs.TrueFrames.{StandsAt, effect_at}
 use Rattle.swan_model.proofs.Paths.{path_is-itself, same_path}
@@ -21,7 +20,7 @@ use Rattle.serial_elision.specs.Caught.{has_failed, once_ended}
 use Rattle.serial_elision.specs.TaskSteps.{IsFaultOf}
 use Rattle.serial_elision.proofs.FaultsTold.{fault-booked, fault-of}
 use Rattle.serial_elision.proofs.Nesting.{next_stack}
-use Rattle.serial_elision.proofs.TaskSteps.{child-ends, ends_last, entry_own, fits-then, goes_on_next, IsUncovered, none-until, stands-each, stands-later, stands-now, stands-one, top_path}
+use Rattle.serial_elision.proofs.TaskSteps.{child-ends, ends_last, entry_own, fits-then, goes_on_next, none-until, stands-each, stands-later, stands-now, stands-one, top_path}
 
 -- ---- whether a task has failed
 

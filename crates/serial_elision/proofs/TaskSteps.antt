@@ -12,7 +12,7 @@ use Rattle.swan_model.specs.declared.script.Entry.{Entry}
 use Rattle.swan_model.specs.Elision.{most_steps, root, serial}
 use Rattle.swan_model.specs.Nested.{IsEndOf, IsEntryOf, IsEntryUnder}
 use Rattle.swan_model.specs.Script.{entry_of, is_end, script}
-use Rattle.swan_model.specs.SerialState.{Activation, State, Store}
+use Rattle.swan_model.specs.SerialState.{Activation, State}
 use Rattle.swan_model.specs.SerialStep.{Effect, goes_on, spawns, ends, faults, state_after, effect_of, step_on, with_failed}
 use Rattle.swan_model.specs.SerialTime.{time, times}
 use Rattle.swan_model.specs.TrueFrames.{StandsAt, effect_at}

@@ -1,7 +1,6 @@
 -- Steps of work in a row: the state goes on with the task that worked, and nothing else of it changes.
 use Rattle.std.proofs.Common.{◌≡◌, ℕ, zero, suc, ◌+◌, ◌-◌, ◌<◌, ◌≤◌, List, ◌∷◌, true, nat_eq, cond, rules, tests, sym, ap, subst, ◌∙◌, refl, arith, add-suc, add-zero, Option, Some, None}
 use Rattle.std.specs.Prelude.{IfSome, IfNone, min}
-use Rattle.swan_model.specs.declared.body.Answer.{Answer}
 use Rattle.swan_model.specs.declared.body.Answer.TheVariants as answer
 use Rattle.swan_model.specs.declared.body.Ask.{Ask}
 use Rattle.swan_model.specs.declared.body.Ask.TheVariants as ask
