@@ -36,7 +36,7 @@ use Rattle.serial_elision.proofs.TaskSteps.{stands-one}
 use Rattle.task_frames.specs.declared.stage.Stage.TheVariants.{Ready}
 use Rattle.task_frames.specs.declared.step.Step.TheVariants as step
 use Rattle.task_frames.specs.Cores.{FrameAtCoreView, HasIt, KeptView, MayBegin, Mid, asking, one_on}
-use Rattle.task_frames.specs.Records.{HasNoLiveChild, IsOnlyLive, LiveFrame, NumberedFrames, come_to, live_at}
+use Rattle.task_frames.specs.Records.{IsOnlyLive, LiveFrame, NumberedFrames, come_to, live_at}
 use Rattle.task_frames.specs.Resumes.{EndsTaskByFault, IsStep, MayNotUse}
 use Rattle.task_frames.proofs.Goings.{goes-told, runs-quiet, runs-used, runs-written}
 use Rattle.task_frames.proofs.Served.{same-mode, some-and}

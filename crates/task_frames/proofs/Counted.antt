@@ -1,6 +1,6 @@
 -- What the core keeps of failed children: each live frame has the number of its children that failed since its last Sync, as it
 -- goes on, spawns, takes a Sync and ends, with a fault or without.
-use Rattle.std.proofs.Common.{◌≡◌, ◌≢◌, inl, inr, ℕ, ◌+◌, ◌<◌, ◌≤◌, true, false, List, [], ◌∷◌, ◌++◌, Option, Some, None, refl, sym, ap, subst, ◌∙◌, arith}
+use Rattle.std.proofs.Common.{◌≡◌, ◌≢◌, inl, inr, ℕ, ◌+◌, true, false, List, [], ◌∷◌, ◌++◌, Option, Some, None, refl, sym, ap, subst, ◌∙◌, arith}
 use Rattle.std.proofs.lemmas.Bool.{cases_eq}
 use Rattle.std.proofs.lemmas.List.{same_from_push}
 use Rattle.std.proofs.lemmas.Option.{same_Some}
@@ -15,7 +15,7 @@ use Rattle.swan_model.specs.Told.{deed_at}
 use Rattle.serial_elision.specs.Caught.{children_by, children_by_sync, failed_children, has_failed}
 use Rattle.serial_elision.proofs.Caught.{failed-none, synced-before}
 use Rattle.task_frames.specs.Cores.{AreCounted, IsSpawnedSince}
-use Rattle.task_frames.specs.Records.{AreGivenSo, HasNoLiveChild, HasOneFailed, IsOnlyLive, LiveFrame, NumberedFrames, as_given, live_at, synced_at, with_failed_child}
+use Rattle.task_frames.specs.Records.{AreGivenSo, HasNoLiveChild, HasOneFailed, IsOnlyLive, LiveFrame, NumberedFrames, live_at, synced_at, with_failed_child}
 use Rattle.task_frames.proofs.AsGiven.{WasGiven, one-failed-given, was-given}
 use Rattle.task_frames.proofs.Failing.{IsStill, children-more, children-stay, count-last, count-one, count-same, failed-more, failed-still, no-sync, synced-now, synced-stay}
 
@@ -48,15 +48,15 @@ module _ (s : Script) (live : NumberedFrames) (faults : List Fault) (are : AreCo
           | inr other ↦ are.counts m frame (sym (only.others m other) ∙ at)
         ];
         since = λ m above child frame at of above_at.
-        let was = child-was m child at in
-        elim (cases_eq above n) [
-          | inl own ↦
-              let it : g ≡ frame = same_Some g frame (sym only.changed ∙ ap (live_at then_live) (sym own) ∙ above_at) in
-              let its : was.0.parent ≡ Some n = was.3 ∙ of ∙ ap Some own in
-              let now = since m was.0 was.1 its (are.since m n was.0 f was.1 its there) in
-              subst (λ (x : LiveFrame). IsSpawnedSince s x.path x.done child.path) it (subst (IsSpawnedSince s g.path g.done) was.2 now)
-          | inr other ↦ subst (IsSpawnedSince s frame.path frame.done) was.2 (are.since m above was.0 frame was.1 (was.3 ∙ of) (sym (only.others above other) ∙ above_at))
-        ];
+            let was = child-was m child at in
+            elim (cases_eq above n) [
+              | inl own ↦
+                  let it : g ≡ frame = same_Some g frame (sym only.changed ∙ ap (live_at then_live) (sym own) ∙ above_at) in
+                  let its : was.0.parent ≡ Some n = was.3 ∙ of ∙ ap Some own in
+                  let now = since m was.0 was.1 its (are.since m n was.0 f was.1 its there) in
+                  subst (λ (x : LiveFrame). IsSpawnedSince s x.path x.done child.path) it (subst (IsSpawnedSince s g.path g.done) was.2 now)
+              | inr other ↦ subst (IsSpawnedSince s frame.path frame.done) was.2 (are.since m above was.0 frame was.1 (was.3 ∙ of) (sym (only.others above other) ∙ above_at))
+            ];
       }
 
       -- it takes steps that neither spawn nor are a Sync
@@ -224,14 +224,14 @@ module _ (s : Script) (live : NumberedFrames) (faults : List Fault) (are : AreCo
       pub failed : AreCounted s then_live then_faults
       failed = record {
         counts = λ m frame at.
-        let other : m ≢ n = λ same. let both : None ≡ Some frame = sym only.changed ∙ ap (live_at then_live) (sym same) ∙ at in absurd (cc) in
-        count-then m frame (sym (only.others m other) ∙ at);
+            let other : m ≢ n = λ same. let both : None ≡ Some frame = sym only.changed ∙ ap (live_at then_live) (sym same) ∙ at in absurd (cc) in
+            count-then m frame (sym (only.others m other) ∙ at);
         since = λ m above child frame at of above_at.
-        let below = left-was m child at in
-        let over = left-was above frame above_at in
-        let its = are.since m above below.was over.was below.live (ap (λ (x : LiveFrame). x.parent) below.same ∙ of) over.live in
-        subst (λ (x : LiveFrame). IsSpawnedSince s x.path x.done child.path) over.same
-        (subst (λ (x : LiveFrame). IsSpawnedSince s over.was.path over.was.done x.path) below.same its);
+            let below = left-was m child at in
+            let over = left-was above frame above_at in
+            let its = are.since m above below.was over.was below.live (ap (λ (x : LiveFrame). x.parent) below.same ∙ of) over.live in
+            subst (λ (x : LiveFrame). IsSpawnedSince s x.path x.done child.path) over.same
+            (subst (λ (x : LiveFrame). IsSpawnedSince s over.was.path over.was.done x.path) below.same its);
       }
 
   -- a frame ends without a fault

@@ -2,7 +2,6 @@ use Rattle.std.proofs.Common.{◌≡◌, None, Some, inr, refl, sym, subst, IsSo
 use Rattle.swan_model.specs.declared.rights.Mode.TheVariants.{Pop}
 use Rattle.swan_model.specs.declared.script.Deed.TheVariants as deed
 use Rattle.swan_model.specs.QueueFollows.{IsNextAbout, next_item, next_queue_deed}
-use Rattle.swan_model.specs.QueueState.{after_deed}
 use Rattle.swan_model.specs.Versions.{IsSettled}
 use Rattle.pop_order.specs.Frames.{HasNoChild}
 use Rattle.queues.specs.Asks.{IsOnTurn, MayJoin, MayUse, OnActive, OnNext}
