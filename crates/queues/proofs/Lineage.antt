@@ -62,6 +62,30 @@ module _ (s : Script) where
       ∙ ap (λ xs. length (filter (is_spawn_time s) xs)) (places-take (is_queue_deed_of path) 0 s.entries t)
       ∙ spawns_among path t
 
+  -- the child of a number that is among those which a task has spawned by a time is spawned before it
+  pub spawn_before : (path : List ℕ) (child u : ℕ) → child < children_before s path u → (spawn : ℕ) × (spawn_time s path child ≡ Some spawn) × (spawn < u)
+  spawn_before path child u less =
+      let test = is_spawn_of path in
+      let most : children_before s path u ≤ length (places_from test 0 s.entries) =
+      let whole = places-many test 0 s.entries in
+      let rise = passing-rises test s.entries u (u + length s.entries) (omega arith) in
+      let all : passing test (u + length s.entries) s.entries ≡ length (filter test s.entries) = ap (λ es. length (filter test es)) (take_all (u + length s.entries) s.entries (omega arith)) in
+      omega (arith, whole, rise, all) in
+      let spawn = slice_index (places_from test 0 s.entries) child in
+      let known = slice_get-get_or (places_from test 0 s.entries) child 0 (omega (arith, less, most)) in
+      let found = placed test 0 s.entries child spawn known in
+      let here : found.i ≡ spawn = omega (arith, found.is) in
+      let count : children_before s path spawn ≡ child = ap (λ i. passing test i s.entries) (sym here) ∙ found.before in (
+        spawn,
+        known,
+        elim (cases_lt spawn u) [
+          | inl before ↦ before
+          | inr past ↦
+              let rise = passing-rises test s.entries u spawn past in
+              absurd (omega (arith, rise, count, less))
+        ],
+      )
+
 module _ (s : Script) (lawful : IsLawful s) where
   -- where a task has no queue deed left, none of its spawns stands at its last entry or after
   spawns_over : (path : List ℕ) → 0 < length (times s path) → (many : ℕ) → length s.entries ≡ many → children_before s path (time s path (length (times s path) - 1)) ≡ children_before s path many
@@ -99,29 +123,8 @@ module _ (s : Script) (lawful : IsLawful s) where
     pub spawned_before : (number : ℕ) (frame : ActiveFrame) (child : ℕ) → active state number ≡ Some frame → child < frame.children → (spawn : ℕ) × (spawn_time s frame.path child ≡ Some spawn) × (spawn < queue_point s frame.path frame.deeds)
     spawned_before number frame child live less =
         let task = follows.tasks number frame live in
-        let path = frame.path in
-        let u = queue_point s path frame.deeds in
-        let many = task.children ∙ children_are path frame.deeds task.some task.deeds in
-        let test = is_spawn_of path in
-        let most : children_before s path u ≤ length (places_from test 0 s.entries) =
-        let whole = places-many test 0 s.entries in
-        let rise = passing-rises test s.entries u (u + length s.entries) (omega arith) in
-        let all : passing test (u + length s.entries) s.entries ≡ length (filter test s.entries) = ap (λ es. length (filter test es)) (take_all (u + length s.entries) s.entries (omega arith)) in
-        omega (arith, whole, rise, all) in
-        let spawn = slice_index (places_from test 0 s.entries) child in
-        let known = slice_get-get_or (places_from test 0 s.entries) child 0 (omega (arith, less, many, most)) in
-        let found = placed test 0 s.entries child spawn known in
-        let here : found.i ≡ spawn = omega (arith, found.is) in
-        let count : children_before s path spawn ≡ child = ap (λ i. passing test i s.entries) (sym here) ∙ found.before in (
-          spawn,
-          known,
-          elim (cases_lt spawn u) [
-            | inl before ↦ before
-            | inr past ↦
-                let rise = passing-rises test s.entries u spawn past in
-                absurd (omega (arith, rise, count, many, less))
-          ],
-        )
+        let many = task.children ∙ children_are frame.path frame.deeds task.some task.deeds in
+        spawn_before s frame.path child (queue_point s frame.path frame.deeds) (omega (arith, less, many))
 
     -- an active frame that isn't the root has a parent that is active
     record HasParent (frame : ActiveFrame) : Type 0 where

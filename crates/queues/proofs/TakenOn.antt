@@ -48,7 +48,7 @@ by_end-no_spawn deed.Sync is = absurd (cc)
 by_end-no_spawn deed.MakeQueue is = absurd (cc)
 by_end-no_spawn (deed.MakeObject first) is = absurd (cc)
 by_end-no_spawn (deed.Spawn gives) is = absurd (cc)
-by_end-no_spawn (deed.Test queue) is = absurd (cc)
+by_end-no_spawn (deed.Test queue) is = refl
 by_end-no_spawn (deed.Read object) is = absurd (cc)
 by_end-no_spawn (deed.Write object value) is = absurd (cc)
 

@@ -110,7 +110,7 @@ pub trait Queues: Send + Drop {
         ensures same { IsSameRun name run self.old self.new };
 
     /// Takes a frame's ends back. The deeds that the frame did by them count as done then: where there is a script,
-    /// they are the frame's next ones there, and all of them are pushes and pops. Err gives the ends back and changes
+    /// they are the frame's next ones there, and all of them are pushes, pops and tests. Err gives the ends back and changes
     /// nothing: it comes exactly where they aren't those that were recorded as last lent to this frame. It takes no
     /// memory.
     fn back(&mut self, frame: u64, ends: Self::Ends) -> Result<(), Self::Ends>

@@ -29,7 +29,7 @@ use Rattle.serial_elision.proofs.Turns.{FitsDeed, next_deed, step-fits}
 
 -- ---- how many of some children failed
 
-failed-none : (booked : List Fault) (path : List ℕ) (from to : ℕ) → to ≤ from → failed_children booked path from to ≡ 0
+pub failed-none : (booked : List Fault) (path : List ℕ) (from to : ℕ) → to ≤ from → failed_children booked path from to ≡ 0
 failed-none booked path from zero most = refl
 failed-none booked path from (suc i) most =
     let rest = failed-none booked path from i (omega (arith, most)) in
@@ -52,7 +52,7 @@ sync-spawn (deed.Push o value) is = refl
 sync-spawn (deed.Pop o) is = refl
 sync-spawn (deed.Test o) is = refl
 
-synced-before : (s : Script) (path : List ℕ) (k : ℕ) → children_by_sync s path k ≤ children_by s path k
+pub synced-before : (s : Script) (path : List ℕ) (k : ℕ) → children_by_sync s path k ≤ children_by s path k
 synced-before s path zero = omega arith
 synced-before s path (suc k) = grind (arith, synced-before s path k)
 

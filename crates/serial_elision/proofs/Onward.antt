@@ -24,12 +24,12 @@ use Rattle.serial_elision.proofs.TaskSteps.{child-ends, ends_last, entry_own, fi
 
 -- ---- whether a task has failed
 
-failed-at : (booked : List Fault) (j : ℕ) (fault : Fault) → slice_get booked j ≡ Some fault → has_failed booked fault.path ≡ true
+pub failed-at : (booked : List Fault) (j : ℕ) (fault : Fault) → slice_get booked j ≡ Some fault → has_failed booked fault.path ≡ true
 failed-at [] j fault at = absurd (cc)
 failed-at (f ∷ booked) zero fault at = let same : f ≡ fault = cc in let itself = path_is-itself fault.path in grind (arith, same, itself)
 failed-at (f ∷ booked) (suc j) fault at = let rest = failed-at booked j fault at in grind (arith, rest)
 
-abbrev HasFaultOf : List Fault → List ℕ → Type 0
+abbrev pub HasFaultOf : List Fault → List ℕ → Type 0
 HasFaultOf booked path = (j : ℕ) × (fault : Fault) × (slice_get booked j ≡ Some fault) × (fault.path ≡ path)
 
 failed-here : (f : Fault) (booked : List Fault) (path : List ℕ) (here : Bool) → pointwise nat_eq f.path path ≡ here → (has_failed booked path ≡ true → HasFaultOf booked path)
@@ -40,7 +40,7 @@ failed-here f booked path false here later is =
     let found = later rest in
     (suc found.0, found.1, found.2, found.3)
 
-failed-from : (booked : List Fault) (path : List ℕ) → has_failed booked path ≡ true → HasFaultOf booked path
+pub failed-from : (booked : List Fault) (path : List ℕ) → has_failed booked path ≡ true → HasFaultOf booked path
 failed-from [] path is = absurd (cc)
 failed-from (f ∷ booked) path is = failed-here f booked path (pointwise nat_eq f.path path) refl (failed-from booked path) is
 

@@ -1,6 +1,7 @@
 -- What the core answers of a step.
 use Rattle.std.proofs.Common.{◌≡◌, ◌≢◌, ◌<◌, ℕ, ◌+◌, Some, None, is_some, length, refl, sym, ap, subst, ◌∙◌, arith}
 use Rattle.std.proofs.lemmas.Option.{same_Some}
+use Rattle.std.specs.Option.{option_map}
 use Rattle.swan_model.specs.declared.body.Body.{Ghosts}
 use Rattle.swan_model.specs.declared.plan.Plan.{Plan}
 use Rattle.swan_model.specs.QueueState.{active}
@@ -14,8 +15,9 @@ use Rattle.task_frames.specs.declared.step.Step.TheVariants as step
 use Rattle.task_frames.specs.declared.steps.Steps.{Steps}
 use Rattle.task_frames.specs.Cores.{MayBegin, FrameAtCoreView, CoreView, HasIt, IsCore, KeptView, after_coming_in}
 use Rattle.task_frames.specs.Frames.{FrameView, TaskView}
-use Rattle.task_frames.specs.Records.{HasNoLiveChild, IsLiveChild, come_at, live_at}
+use Rattle.task_frames.specs.Records.{HasNoLiveChild, IsLiveChild, as_given, come_at, live_at}
 use Rattle.task_frames.specs.Resumes.{MayStep, AreOfPlan, EndsOf, HasLent, HasNoChildAtCore, HaveCome, IsAnswered, IsNewChildOf, IsGivenAs, IsGivenBy, IsLast, IsLiveBefore, IsOneOn, IsResumed, IsShown, IsStep, OnGoneOn, OthersKept, OthersStay, waited_for}
+use Rattle.task_frames.proofs.AsGiven.{none-given}
 use Rattle.task_frames.proofs.Given.{given-stays, has-stays}
 use Rattle.task_frames.proofs.Lives.{child-comes, come-only}
 
@@ -23,7 +25,7 @@ use Rattle.task_frames.proofs.Lives.{child-comes, come-only}
 
 pub lent-others : (before after : KeptView) (n : ℕ) → HasLent before after n → OthersStay before after (λ other. other ≢ n)
 lent-others before after n lent = record {
-  live = λ other differs. ap (λ (k : KeptView). live_at k.live other) lent.after_is;
+  live = λ other differs. ap (λ (k : KeptView). option_map as_given (live_at k.live other)) lent.after_is;
   active_are = λ other differs. ap (λ (k : KeptView). active k.state other) lent.after_is
       ∙ (one_goes_on before.state n lent.own (λ x. record x { lent = Some (record { deeds = lent.own.deeds; ends = lent.list }) }) (λ x. refl) lent.active_is).others other differs;
 }
@@ -154,7 +156,7 @@ module _ {B L E : Type 0} (G : Ghosts B L) (of : EndsOf E) (before after : CoreV
         subst (IsNewChildOf frame.task) (sym answered.2.task) (record { plan = so.3.plan; path = so.3.path; done = so.3.done; other = so.3.other }),
         so.4,
         (λ x is. subst (λ (k : KeptView). live_at k.live child.task.number ≡ None) (same_Some start x (sym start_is ∙ is))
-            (ap (live_at start.live) child_own ∙ sym (others.live new.task.number so.3.other) ∙ so.5)),
+            (none-given start.live taken.live child.task.number (others.live child.task.number (λ same. so.3.other (sym child_own ∙ same))) (ap (live_at taken.live) child_own ∙ so.5))),
         kept-others IsOther (from-start IsOther (λ m apart. apart.0)
             (fewer-stay taken stepped (λ other. (other ≢ n) × (other ≢ new.task.number)) IsOther (λ m apart. (apart.0, λ same. apart.1 (same ∙ sym child_own))) so.6)
             (fewer-stay stepped given (λ other. (other ≢ parent.task.number) × (other ≢ new.task.number)) IsOther (λ m apart. (λ same. apart.0 (same ∙ own), λ same. apart.1 (same ∙ sym child_own))) answered.3)),

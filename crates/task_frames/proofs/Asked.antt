@@ -23,7 +23,7 @@ use Rattle.swan_model.specs.Readings.{gone_on_by}
 use Rattle.swan_model.specs.Rights.{allows}
 use Rattle.swan_model.specs.Script.{script}
 use Rattle.swan_model.specs.SerialState.{Activation, Holding}
-use Rattle.swan_model.specs.SerialStep.{given, given_also, number_at, used_by}
+use Rattle.swan_model.specs.SerialStep.{after_next, given, given_also, number_at, used_by, with_answer}
 use Rattle.swan_model.specs.SerialTime.{is_queue_deed, time}
 use Rattle.swan_model.specs.Told.{count, deed_at, pushes, taken}
 use Rattle.swan_model.specs.Versions.{Placed, after_write, placed_at}
@@ -36,9 +36,9 @@ use Rattle.serial_elision.proofs.TaskSteps.{stands-one}
 use Rattle.task_frames.specs.declared.stage.Stage.TheVariants.{Ready}
 use Rattle.task_frames.specs.declared.step.Step.TheVariants as step
 use Rattle.task_frames.specs.Cores.{FrameAtCoreView, HasIt, KeptView, MayBegin, Mid, asking, one_on}
-use Rattle.task_frames.specs.Records.{HasNoLiveChild, IsOnlyLive, LiveFrame, NumberedFrames, come_to, live_at}
+use Rattle.task_frames.specs.Records.{IsOnlyLive, LiveFrame, NumberedFrames, come_to, live_at}
 use Rattle.task_frames.specs.Resumes.{EndsTaskByFault, IsStep, MayNotUse}
-use Rattle.task_frames.proofs.Goings.{runs-quiet, runs-used, runs-written}
+use Rattle.task_frames.proofs.Goings.{goes-told, runs-quiet, runs-used, runs-written}
 use Rattle.task_frames.proofs.Served.{same-mode, some-and}
 use Rattle.serial_elision.proofs.FewMade.{few-times}
 
@@ -75,17 +75,22 @@ given-none xs ys (give ∷ gives) same none = by (number_at xs give.place give.m
 pub noted : (before after : NumberedFrames) (n done : ℕ) (f : LiveFrame) → live_at before n ≡ Some f → IsOnlyLive before after n (option_map (come_to done) (live_at before n)) → IsOnlyLive before after n (Some (record f { done = done }))
 noted before after n done f there only = subst (λ o. IsOnlyLive before after n (option_map (come_to done) o)) there only
 
--- the same, by a number and a count that are the frame's, and over what is the same
+-- the same, by a number and a count that are the frame's, and over what is the same, for each change of the frame
+pub noted-by : (change : ℕ → LiveFrame → LiveFrame) (kept other after : KeptView) (n m d e : ℕ) → other ≡ kept → n ≡ m → d ≡ e → after ≡ record other { reading = gone_on_by other.reading n 1; live = after.live }
+    → IsOnlyLive other.live after.live n (option_map (change (d + 1)) (live_at other.live n))
+    → (after ≡ record kept { reading = gone_on_by kept.reading m 1; live = after.live }) × IsOnlyLive kept.live after.live m (option_map (change (e + 1)) (live_at kept.live m))
+noted-by change kept other after n m d e same number done is only = (
+  subst (λ x. after ≡ record kept { reading = gone_on_by kept.reading x 1; live = after.live }) number
+      (subst (λ (k : KeptView). after ≡ record k { reading = gone_on_by k.reading n 1; live = after.live }) same is),
+  subst (λ x. IsOnlyLive kept.live after.live m (option_map (change (x + 1)) (live_at kept.live m))) done
+      (subst (λ x. IsOnlyLive kept.live after.live x (option_map (change (d + 1)) (live_at kept.live x))) number
+      (subst (λ (k : KeptView). IsOnlyLive k.live after.live n (option_map (change (d + 1)) (live_at k.live n))) same only)),
+)
+
 pub noted-so : (kept other after : KeptView) (n m d e : ℕ) → other ≡ kept → n ≡ m → d ≡ e → after ≡ record other { reading = gone_on_by other.reading n 1; live = after.live }
     → IsOnlyLive other.live after.live n (option_map (come_to (d + 1)) (live_at other.live n))
     → (after ≡ record kept { reading = gone_on_by kept.reading m 1; live = after.live }) × IsOnlyLive kept.live after.live m (option_map (come_to (e + 1)) (live_at kept.live m))
-noted-so kept other after n m d e same number done is only = (
-  subst (λ x. after ≡ record kept { reading = gone_on_by kept.reading x 1; live = after.live }) number
-      (subst (λ (k : KeptView). after ≡ record k { reading = gone_on_by k.reading n 1; live = after.live }) same is),
-  subst (λ x. IsOnlyLive kept.live after.live m (option_map (come_to (x + 1)) (live_at kept.live m))) done
-      (subst (λ x. IsOnlyLive kept.live after.live x (option_map (come_to (d + 1)) (live_at kept.live x))) number
-      (subst (λ (k : KeptView). IsOnlyLive k.live after.live n (option_map (come_to (d + 1)) (live_at k.live n))) same only)),
-)
+noted-so = noted-by come_to
 
 module _ {B L : Type 0} (G : Ghosts B L) (kept : KeptView) (mid : Mid B L) (asks : Ask L) (has : HasIt G kept (asking mid asks)) where
   abbrev top : Activation L
@@ -139,24 +144,27 @@ module _ {B L : Type 0} (G : Ghosts B L) (kept : KeptView) (mid : Mid B L) (asks
     abbrev n : ℕ
     n = mid.task.number
 
+    abbrev then : Activation L
+    then = with_answer (after_next top mid.local) said
+
     pub quiet-so : after ≡ record kept { reading = gone_on_by kept.reading n 1; live = after.live } → is_queue_deed does ≡ false → is_object_deed does ≡ false → is_spawn does ≡ false
-        → (does ≡ deed.Sync → HasNoLiveChild kept.live n) → IsStep G kept after mid.task (step.Runs next)
-    quiet-so is no_queue no_object no_spawn childless =
+        → does ≢ deed.Sync → IsStep G kept after mid.task (step.Runs next)
+    quiet-so is no_queue no_object no_spawn no_wait =
         subst (λ x. IsStep G kept after mid.task (step.Runs x)) (sym next_is)
-        (runs-quiet G kept mid asks has begun said does goes after (noted kept.live after.live n (mid.task.done + 1) has.of.frame has.of.live only) is no_queue no_object no_spawn childless)
+        (runs-quiet G kept mid asks has begun said does then goes (goes-told top mid.local said) after (noted kept.live after.live n (mid.task.done + 1) has.of.frame has.of.live only) is no_queue no_object no_spawn no_wait)
 
     pub written-so : (place : ℕ) (value : Value) (origin : Origin) (object : Placed) → after ≡ record kept { versions = after_write kept.versions n place value; reading = gone_on_by kept.reading n 1; live = after.live }
         → does ≡ deed.Write origin value → placed_at kept.versions n place ≡ Some object → allows object.mode Out ≡ true → slice_get kept.reading.objects object.object ≡ Some origin
         → IsStep G kept after mid.task (step.Runs next)
     written-so place value origin object is written stands may named =
         subst (λ x. IsStep G kept after mid.task (step.Runs x)) (sym next_is)
-        (runs-written G kept mid asks has begun said does goes after place value origin object (noted kept.live after.live n (mid.task.done + 1) has.of.frame has.of.live only) is written stands may named)
+        (runs-written G kept mid asks has begun said does then goes (goes-told top mid.local said) after place value origin object (noted kept.live after.live n (mid.task.done + 1) has.of.frame has.of.live only) is written stands may named)
 
     pub used-so : MayDo kept.state n → after ≡ record kept { state = after_deed kept.state n; reading = gone_on_by kept.reading n 1; live = after.live }
         → is_queue_deed does ≡ true → is_object_deed does ≡ false → is_spawn does ≡ false → does ≢ deed.MakeQueue → IsStep G kept after mid.task (step.Runs next)
     used-so act is queue no_object no_spawn no_making =
         subst (λ x. IsStep G kept after mid.task (step.Runs x)) (sym next_is)
-        (runs-used G kept mid asks has begun said does goes after (noted kept.live after.live n (mid.task.done + 1) has.of.frame has.of.live only) act is queue no_object no_spawn no_making)
+        (runs-used G kept mid asks has begun said does then goes (goes-told top mid.local said) after (noted kept.live after.live n (mid.task.done + 1) has.of.frame has.of.live only) act is queue no_object no_spawn no_making)
 
 -- ---- the deed of a pop, whether or not an item is left
 

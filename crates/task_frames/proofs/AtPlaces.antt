@@ -42,7 +42,10 @@ use Rattle.task_frames.specs.Cores.{FrameAtCoreView, HasIt, IsAtCore, IsCore, Ke
 use Rattle.task_frames.specs.Records.{IsOnlyLive, NumberedFrames, come_to, holding_too, live_at}
 use Rattle.task_frames.specs.Resumes.{IsStep}
 use Rattle.task_frames.proofs.AtQueues.{a, a-back, a-live, asked, done-now, for-next, law, may-do, told}
+use Rattle.task_frames.proofs.AsGiven.{others-given}
 use Rattle.task_frames.proofs.Booked as booked
+use Rattle.task_frames.proofs.Counted as counted
+use Rattle.task_frames.proofs.Failing.{still-one}
 use Rattle.task_frames.proofs.Given.{with-state}
 use Rattle.task_frames.proofs.Goings.{known}
 use Rattle.task_frames.proofs.Live as live
@@ -172,7 +175,7 @@ module _ {B L : Type 0} (G : Ghosts B L) (kept : KeptView) (mid : Mid B L) (asks
       }
 
       pub places : IsStep G kept after mid.task (step.Runs more)
-      places = (has-next, refl, ap is_spawn gets.deed ∙ no_spawn, record { live = only.others; active_are = changed.others }, λ is. absurd (no_wait (sym gets.deed ∙ is)), begun)
+      places = (has-next, refl, ap is_spawn gets.deed ∙ no_spawn, record { live = others-given kept.live after.live mid.task.number _ only; active_are = changed.others }, λ is. absurd (no_wait (sym gets.deed ∙ is)), begun)
 
   -- the record, by what stood in it
   pub held-more : (then_live : NumberedFrames) (h : Holding) → IsOnlyLive kept.live then_live mid.task.number (option_map (come_to (mid.task.done + 1)) (option_map (holding_too h) (live_at kept.live mid.task.number)))
@@ -237,6 +240,10 @@ module _ {B L : Type 0} (G : Ghosts B L) (kept : KeptView) (mid : Mid B L) (has 
             booked = booked.frames-same G mid.task.plan (gone_on_by r n 1) (with_queue (gone_on_by r n 1) o) kept.faults refl
                 (booked.goes G mid.task.plan r n mid.task.path mid.task.done known_is 1 kept.faults
                 (stands-next G kept mid ask.NewQueue has PushPop deed.MakeQueue queue-gets (record { mode = PushPop; number = length kept.state.makers }) refl).left has.core.booked);
+            counted = counted.goes s kept.live kept.faults has.core.counted then_live n has.of.frame has.of.live
+                (record has.of.frame { done = mid.task.done + 1; holdings = has.of.frame.holdings ++ record { mode = PushPop; number = length kept.state.makers } ∷ [] }) only refl refl
+                mid.task.path mid.task.done has.of.path (done-now G kept mid ask.NewQueue has) refl
+                (still-one s mid.task.path mid.task.done deed.MakeQueue queue-gets.deed refl (λ same. absurd (cc)));
           }
 
       queue-steps : IsStep G kept with-one-queue mid.task (step.Runs (record {
@@ -321,6 +328,10 @@ module _ {B L : Type 0} (G : Ghosts B L) (kept : KeptView) (mid : Mid B L) (valu
                 object-gets.names (has.core.objects.follow.objects ∙ has.core.objects.count) (begun.turn own own_live) only;
             booked = booked.frames-same G mid.task.plan (gone_on_by r n 1) (with_object (gone_on_by r n 1) o) kept.faults refl
                 (booked.goes G mid.task.plan r n mid.task.path mid.task.done known_is 1 kept.faults then.left has.core.booked);
+            counted = counted.goes s kept.live kept.faults has.core.counted then_live n has.of.frame has.of.live
+                (record has.of.frame { done = mid.task.done + 1; holdings = has.of.frame.holdings ++ record { mode = InOut; number = kept.objects } ∷ [] }) only refl refl
+                mid.task.path mid.task.done has.of.path (done-now G kept mid asks has) refl
+                (still-one s mid.task.path mid.task.done (deed.MakeObject value) object-gets.deed refl (λ same. absurd (cc)));
           }
 
       object-steps : IsStep G kept with-one-object mid.task (step.Runs (record {

@@ -42,11 +42,12 @@ use Rattle.serial_elision.proofs.TaskSteps.{ends_last}
 use Rattle.task_frames.specs.declared.stage.Stage.TheVariants.{Ready}
 use Rattle.task_frames.specs.declared.step.Step.TheVariants as step
 use Rattle.task_frames.specs.Cores.{FrameAtCoreView, HasIt, IsAsRead, KeptView, MayBegin, Mid, asking, one_on}
-use Rattle.task_frames.specs.Records.{IsLiveChild, IsOnlyLive, come_to, live_at}
+use Rattle.task_frames.specs.Records.{HasOneFailed, IsLiveChild, IsOnlyLive, NumberedFrames, come_to, live_at}
 use Rattle.task_frames.specs.Resumes.{AsksOf, IsLast, IsStep}
 use Rattle.task_frames.proofs.Asked.{pop-does, usable, used-so}
 use Rattle.task_frames.proofs.Booked as booked
-use Rattle.task_frames.proofs.Endings.{ends-so, is-fault}
+use Rattle.task_frames.proofs.AsGiven.{one-failed-given}
+use Rattle.task_frames.proofs.Endings.{counted-fault, ends-so, is-fault}
 use Rattle.task_frames.proofs.Firsts.{waits-cause}
 use Rattle.task_frames.proofs.Given.{with-state}
 use Rattle.task_frames.proofs.Goings.{done-is, known, lawful, own}
@@ -71,14 +72,14 @@ pub state-kept : (base kept : KeptView) (name : Option Script) (run : List ℕ) 
 state-kept base kept name run state same_kept same_name same_run same_state = with-state base name run state base.state same_name same_run same_state ∙ same_kept
 
 -- a frame that has left, once the queues had counted a deed of it and a fault was booked
-pub dry-kept : (base kept : KeptView) (m n : ℕ) (name : Option Script) (run : List ℕ) (state : QueueState) (faults_are : List Fault) (fault : Fault) → base ≡ kept → m ≡ n → name ≡ base.name → run ≡ base.run
-    → state ≡ after_deed base.state m → faults_are ≡ base.faults ++ fault ∷ []
-    → ◌≡◌ {A = KeptView} (record base { name = name; run = run; state = state; faults = faults_are }) (record kept { state = after_deed kept.state n; faults = kept.faults ++ fault ∷ [] })
-dry-kept base kept m n name run state faults_are fault same_kept same_number same_name same_run same_state same_faults =
-    ap {B = KeptView} (λ x. record base { name = name; run = run; state = state; faults = x }) same_faults
-    ∙ with-state (record base { faults = base.faults ++ fault ∷ [] }) name run state (after_deed base.state m) same_name same_run same_state
-    ∙ ap {B = KeptView} (λ (k : KeptView). record k { state = after_deed k.state m; faults = k.faults ++ fault ∷ [] }) same_kept
-    ∙ ap {B = KeptView} (λ j. record kept { state = after_deed kept.state j; faults = kept.faults ++ fault ∷ [] }) same_number
+pub dry-kept : (base kept booked : KeptView) (m n : ℕ) (name : Option Script) (run : List ℕ) (state : QueueState) (fault : Fault) → base ≡ kept → m ≡ n → name ≡ base.name → run ≡ base.run
+    → state ≡ after_deed base.state m → booked ≡ record base { name = name; run = run; state = state; live = booked.live; faults = base.faults ++ fault ∷ [] }
+    → booked ≡ record kept { state = after_deed kept.state n; live = booked.live; faults = kept.faults ++ fault ∷ [] }
+dry-kept base kept booked m n name run state fault same_kept same_number same_name same_run same_state is =
+    is
+    ∙ with-state (record base { live = booked.live; faults = base.faults ++ fault ∷ [] }) name run state (after_deed base.state m) same_name same_run same_state
+    ∙ ap {B = KeptView} (λ (k : KeptView). record k { state = after_deed k.state m; live = booked.live; faults = k.faults ++ fault ∷ [] }) same_kept
+    ∙ ap {B = KeptView} (λ j. record kept { state = after_deed kept.state j; live = booked.live; faults = kept.faults ++ fault ∷ [] }) same_number
 
 module _ {B L : Type 0} (G : Ghosts B L) (kept : KeptView) (mid : Mid B L) (asks : Ask L) (has : HasIt G kept (asking mid asks)) where
   abbrev plan : Plan B L
@@ -291,7 +292,7 @@ module _ {B L : Type 0} (G : Ghosts B L) (kept : KeptView) (mid : Mid B L) (plac
           (ending.over-next_dry G mid.task.plan (law G kept mid (ask.Pop place) has) kept.reading kept.state kept.turns kept.live kept.frames has.core.queues has.core.frames
           mid.task.number f has.of.live alone mine (a-live G kept mid (ask.Pop place) has) pop-used.0 does last))
 
-      pub dry-ends : (after : KeptView) (fault : Fault) → IsOnlyLive kept.live after.live mid.task.number None
+      pub dry-ends : (after : KeptView) (fault : Fault) (between : NumberedFrames) → HasOneFailed kept.live between has.of.frame.parent → IsOnlyLive between after.live mid.task.number None
           → after ≡ record kept {
             state = after_finish (after_deed kept.state mid.task.number) mid.task.number;
             versions = objects_after_finish kept.versions mid.task.number;
@@ -301,7 +302,8 @@ module _ {B L : Type 0} (G : Ghosts B L) (kept : KeptView) (mid : Mid B L) (plac
             faults = kept.faults ++ fault ∷ [];
           }
           → fault.kind ≡ kind.PopEmpty → fault.path ≡ mid.task.path → fault.place ≡ mid.at → IsStep G kept after mid.task step.Ended
-      dry-ends after fault only is kind_is path place_is =
+      dry-ends after fault between one only is kind_is path place_is =
+          let given = one-failed-given kept.live between has.of.frame.parent one in
           let n = mid.task.number in
           let s = script G mid.task.plan in
           let effect : effect_at G mid.task.plan mid.task.path mid.task.done has.is.alone.top ≡ faults fault.kind = (none-faults none).effect ∙ ap faults (sym kind_is) in
@@ -324,13 +326,14 @@ module _ {B L : Type 0} (G : Ghosts B L) (kept : KeptView) (mid : Mid B L) (plac
             turns = without kept.turns n;
             faults = kept.faults ++ fault ∷ [];
           })
-          settled only refl refl refl refl refl alone
+          settled between given only refl refl refl refl refl alone
           (record { changed = gone.changed; others = λ m other. gone.others m other ∙ popped.others m other })
           (queues.finished-dry s lawful_is r kept.state kept.turns has.core.queues n mid.task.path mid.task.done known_is pop-used.0 then_state (without kept.turns n) popped-deed (none-last none) act dry-join refl refl)
-          (live.leaves-dry G mid.task.plan r kept.state kept.live kept.frames has.core.frames has.core.queues.tree n (a G kept mid (ask.Pop place) has) then_state after.live
+          (live.leaves-dry G mid.task.plan r kept.state between kept.frames (live.as-before G mid.task.plan r kept.state kept.live kept.frames has.core.frames between given) has.core.queues.tree n (a G kept mid (ask.Pop place) has) then_state after.live
           (a-live G kept mid (ask.Pop place) has) act dry-join refl only)
           (booked.faulted G mid.task.plan r n mid.task.path mid.task.done known_is has.is.alone.top has.is.alone.stands (none-last none) has.core.queues.fit.tasks
-          kept.faults (kept.faults ++ fault ∷ []) fault is_fault path refl has.core.booked))
+          kept.faults (kept.faults ++ fault ∷ []) fault is_fault path refl has.core.booked)
+          (counted-fault G kept (asking mid (ask.Pop place)) has begun (none-last none) between after.live fault path one only))
 
 -- ---- a test
 

@@ -18,11 +18,11 @@ use Rattle.serial_elision.proofs.Lawful.{lawful}
 use Rattle.swan_model.proofs.RootLists.{length-root_holdings}
 use Rattle.serial_elision.proofs.TaskSteps.{root_stands}
 use Rattle.task_frames.specs.declared.stage.Stage.TheVariants.{Ready}
-use Rattle.task_frames.specs.Cores.{AreBooked, AreFrames, AreObjects, AreQueues, HasIt, IsAtCore, IsCore, KeptView}
+use Rattle.task_frames.specs.Cores.{AreBooked, AreCounted, AreFrames, AreObjects, AreQueues, HasIt, IsAtCore, IsCore, KeptView}
 use Rattle.task_frames.specs.Frames.{IsPlan, TaskView, root_task}
 use Rattle.task_frames.specs.Opened.{AreFirstObjects, AreFirstQueues, IsKeptAtFirst, roots_to}
 use Rattle.task_frames.specs.Records.{live_at}
-use Rattle.task_frames.proofs.Opening.{booked-open, frames-open, objects-open, queues-open}
+use Rattle.task_frames.proofs.Opening.{booked-open, counted-open, frames-open, objects-open, queues-open}
 use Rattle.swan_model.proofs.Lists.{get-drop, drop_next}
 
 -- the next one, and what is left behind it
@@ -95,13 +95,14 @@ module _ {B L : Type 0} (G : Ghosts B L) (plan : Plan B L) (sound : IsPlan plan)
               (subst (λ r. AreFrames G plan r kept.state kept.live 1) reading-is (frames-open G plan sound lawful-is kept.state kept.versions kept.live first-queues first-objects first.live.changed none));
           booked = subst (AreBooked G plan kept.reading) (sym first.faults)
               (subst (λ r. AreBooked G plan r []) reading-is (booked-open G plan sound lawful-is kept.state kept.versions kept.live first-queues first-objects first.live.changed none));
+          counted = subst (AreCounted s kept.live) (sym first.faults) (counted-open G plan sound lawful-is kept.state kept.versions kept.live first-queues first-objects first.live.changed none);
         }
 
     root-here : (fuel : ℕ) → fuel ≡ plan.fuel → HasIt G kept (record { task = record (root_task plan (root_holdings plan.roots)) { fuel = fuel }; stage = Ready plan.root_local answer.Start })
     root-here fuel same = record {
       core = root-kept;
       is = root-at-core fuel same;
-      of = record { frame = record { parent = None; path = []; done = 0; holdings = root_holdings plan.roots }; live = first.live.changed; path = refl; done = refl; holdings = refl };
+      of = record { frame = record { parent = None; path = []; done = 0; holdings = root_holdings plan.roots; failed = 0 }; live = first.live.changed; path = refl; done = refl; holdings = refl };
       back = λ own active-is.
           let untouched = first.queues_are.untouched in
           let it = same_Some untouched.root own (sym untouched.live ∙ active-is) in

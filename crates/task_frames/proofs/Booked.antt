@@ -81,6 +81,17 @@ module _ {B L : Type 0} (G : Ghosts B L) (plan : Plan B L) where
         let e : j ≡ length (times s path) = ap (λ (p : Progress). p.done) (sym it) ∙ over.all ∙ ap (λ q. length (times s q)) (sym over.own ∙ ap (λ (p : Progress). p.path) it) in
         omega (arith, e, left)
 
+    -- none of the booked faults is of its task, where that has an entry left
+    pub fresh : HasTasks s r → (booked : List Fault) → AreBooked G plan r booked → k < length (times s path) → (i : ℕ) (other : Fault) → slice_get booked i ≡ Some other → other.path ≢ path
+    fresh tasks booked are left i other there path_is =
+        let over = (are.only i other there).1 in
+        let one = found_is (λ (p : Progress). nat_eq p.number over.number) r.frames over.progress over.known in
+        let two = found_is (λ (p : Progress). nat_eq p.number n) r.frames (record { number = n; path = path; done = k }) known in
+        let index : one.index ≡ two.index = tasks.different one.index two.index over.progress (record { number = n; path = path; done = k }) one.stands two.stands (over.own ∙ path_is) in
+        let it : over.progress ≡ record { number = n; path = path; done = k } = same_Some over.progress _ (sym one.stands ∙ ap (slice_get r.frames) index ∙ two.stands) in
+        let number : over.number ≡ n = sym (eqb-true over.progress.number over.number one.passes) ∙ ap (λ (p : Progress). p.number) it in
+        not-over k r other.path known left over number
+
     -- it goes on, with an entry left
     pub goes : (many : ℕ) (booked : List Fault) → k + many < length (times s path) → AreBooked G plan r booked → AreBooked G plan (gone_on_by r n many) booked
     goes many booked left are =
@@ -178,25 +189,14 @@ module _ {B L : Type 0} (G : Ghosts B L) (plan : Plan B L) where
           | inr apart ↦ let was = are.all other also (was-ended 1 other.path over apart) in (was.0, before_more booked fault was.0 other was.1)
         ]
 
-        -- none of the booked ones is of this task
-        fresh : (i : ℕ) (other : Fault) → slice_get booked i ≡ Some other → other.path ≢ path
-        fresh i other there path_is =
-            let over = (are.only i other there).1 in
-            let one = found_is (λ (p : Progress). nat_eq p.number over.number) r.frames over.progress over.known in
-            let two = found_is (λ (p : Progress). nat_eq p.number n) r.frames (record { number = n; path = path; done = k }) known in
-            let index : one.index ≡ two.index = tasks.different one.index two.index over.progress (record { number = n; path = path; done = k }) one.stands two.stands (over.own ∙ path_is) in
-            let it : over.progress ≡ record { number = n; path = path; done = k } = same_Some over.progress _ (sym one.stands ∙ ap (slice_get r.frames) index ∙ two.stands) in
-            let number : over.number ≡ n = sym (eqb-true over.progress.number over.number one.passes) ∙ ap (λ (p : Progress). p.number) it in
-            not-over k r other.path known (omega (arith, last)) over number
-
         once : (i j : ℕ) (a b : Fault) → slice_get (booked ++ fault ∷ []) i ≡ Some a → slice_get (booked ++ fault ∷ []) j ≡ Some b → a.path ≡ b.path → i ≡ j
         once i j a b one two path_is = elim (more_cases booked fault i a one) [
           | inl first ↦ elim (more_cases booked fault j b two) [
             | inl second ↦ are.once i j a b first second path_is
-            | inr end ↦ absurd (fresh i a first (path_is ∙ ap (λ (f : Fault). f.path) end.1 ∙ own))
+            | inr end ↦ absurd (fresh tasks booked are (omega (arith, last)) i a first (path_is ∙ ap (λ (f : Fault). f.path) end.1 ∙ own))
           ]
           | inr start ↦ elim (more_cases booked fault j b two) [
-            | inl second ↦ absurd (fresh j b second (sym path_is ∙ ap (λ (f : Fault). f.path) start.1 ∙ own))
+            | inl second ↦ absurd (fresh tasks booked are (omega (arith, last)) j b second (sym path_is ∙ ap (λ (f : Fault). f.path) start.1 ∙ own))
             | inr end ↦ start.0 ∙ sym end.0
           ]
         ]

@@ -15,14 +15,15 @@ use Rattle.swan_model.proofs.TaskEntries.{point_is}
 use Rattle.swan_model.proofs.MovedFrames.{frame_number}
 use Rattle.object_versions.proofs.PassFollows.{others_pass}
 use Rattle.swan_model.specs.Readings.{gone_on_by}
+use Rattle.serial_elision.specs.Caught.{is_sync}
 use Rattle.task_frames.specs.Frames.{AreLocal, is_local}
 use Rattle.task_frames.proofs.GoneOn.{gone-by_more, gone-by_none, own-gone_by}
 
--- a local deed isn't one of objects, and no spawn
-local-passes : (does : Deed) → is_local does ≡ true → (is_object_deed does ≡ false) × (is_spawn does ≡ false)
-local-passes deed.Quiet is = (refl, refl)
-local-passes (deed.Push queue value) is = (refl, refl)
-local-passes (deed.Pop queue) is = (refl, refl)
+-- a local deed isn't one of objects, no spawn and no Sync
+pub local-passes : (does : Deed) → is_local does ≡ true → (is_object_deed does ≡ false) × (is_spawn does ≡ false) × (is_sync does ≡ false)
+local-passes deed.Quiet is = (refl, refl, refl)
+local-passes (deed.Push queue value) is = (refl, refl, refl)
+local-passes (deed.Pop queue) is = (refl, refl, refl)
 local-passes _ is = absurd (cc)
 
 -- what comes next for a frame is what its task does after as many steps

@@ -1,5 +1,6 @@
 -- A frame at the core that ends by its next step, or has to wait for its children before it may.
-use Rattle.std.proofs.Common.{◌≡◌, inr, ℕ, false, None, [], ◌∷◌, ◌++◌, refl, sym, ap, subst, ◌∙◌}
+use Rattle.std.proofs.Common.{◌≡◌, ◌≢◌, inr, ℕ, false, None, [], ◌∷◌, ◌++◌, refl, sym, ap, subst, ◌∙◌}
+use Rattle.std.specs.Option.{option_map}
 use Rattle.swan_model.specs.declared.body.Body.{Ghosts}
 use Rattle.swan_model.specs.declared.fault.Fault.{Fault}
 use Rattle.swan_model.specs.declared.script.Deed.{Deed}
@@ -17,14 +18,18 @@ use Rattle.queues.specs.Asks.{MayJoin}
 use Rattle.swan_model.specs.Readings.{gone_on_by}
 use Rattle.queues.specs.Tree.{IsOnlyFrame}
 use Rattle.task_frames.specs.declared.step.Step.TheVariants as step
-use Rattle.task_frames.specs.Cores.{AreBooked, AreFrames, AreObjects, AreQueues, FrameAtCoreView, HasIt, IsCore, KeptView, MayBegin}
+use Rattle.task_frames.specs.Cores.{AreBooked, AreCounted, AreFrames, AreObjects, AreQueues, FrameAtCoreView, HasIt, IsCore, KeptView, MayBegin}
 use Rattle.task_frames.specs.Frames.{TaskView}
-use Rattle.task_frames.specs.Records.{HasNoLiveChild, IsOldestChild, IsOnlyLive}
+use Rattle.task_frames.specs.Records.{AreGivenSo, HasNoLiveChild, HasOneFailed, IsOldestChild, IsOnlyLive, NumberedFrames, as_given, live_at}
 use Rattle.task_frames.specs.Resumes.{IsLast, IsLiveBefore, IsStep, deed_now}
 use Rattle.queues.specs.declared.answers.WaitFor.TheVariants as wait
 use Rattle.queues.proofs.ActiveAfter.{one_gone}
+use Rattle.serial_elision.specs.Caught.{has_failed}
 use Rattle.serial_elision.specs.TaskSteps.{IsFaultOf}
+use Rattle.task_frames.proofs.AsGiven.{WasGiven, one-failed-given, others-given, was-given}
 use Rattle.task_frames.proofs.Booked as booked
+use Rattle.task_frames.proofs.Counted as counted
+use Rattle.task_frames.proofs.Failing.{never-failed}
 use Rattle.task_frames.proofs.Goings.{known, lawful}
 use Rattle.task_frames.proofs.Live as live
 use Rattle.task_frames.proofs.Objects as objects
@@ -58,11 +63,16 @@ module _ {B L : Type 0} (G : Ghosts B L) (kept : KeptView) (frame : FrameAtCoreV
   module _ (begun : MayBegin kept task.number) (last : IsLast G task) where
     -- it ends by this deed, which no object hears of; its faults are booked
     module _ (does : Deed) (is : deed_now G task ≡ does) (no_object : is_object_deed does ≡ false) (no_spawn : is_spawn does ≡ false) (after : KeptView) (settled : IsSettled kept.versions task.number)
-        (only : IsOnlyLive kept.live after.live task.number None) (name : after.name ≡ kept.name) (reading : after.reading ≡ gone_on_by kept.reading task.number 1) (count : after.frames ≡ kept.frames) (made : after.objects ≡ kept.objects)
+        (between : NumberedFrames) (given : AreGivenSo kept.live between) (only : IsOnlyLive between after.live task.number None) (name : after.name ≡ kept.name) (reading : after.reading ≡ gone_on_by kept.reading task.number 1) (count : after.frames ≡ kept.frames) (made : after.objects ≡ kept.objects)
         (ended : after.versions ≡ objects_after_finish kept.versions task.number) (alone : HasNoLiveChild kept.live task.number) (gone : IsOnlyFrame kept.state after.state task.number None)
         (queues_are : AreQueues s (gone_on_by kept.reading task.number 1) after.state after.turns)
         (frames_are : AreFrames G task.plan (gone_on_by kept.reading task.number 1) after.state after.live kept.frames)
-        (booked_are : AreBooked G task.plan (gone_on_by kept.reading task.number 1) after.faults) where
+        (booked_are : AreBooked G task.plan (gone_on_by kept.reading task.number 1) after.faults)
+        (counted_are : AreCounted s after.live after.faults) where
+      -- the frame, as it stands there still
+      here-still : WasGiven between task.number has.of.frame
+      here-still = was-given between kept.live task.number has.of.frame (sym (given task.number)) has.of.live
+
       pub core-ended : IsCore G task.plan after
       core-ended = record {
         sound = has.core.sound;
@@ -70,15 +80,20 @@ module _ {B L : Type 0} (G : Ghosts B L) (kept : KeptView) (frame : FrameAtCoreV
         queues = subst (λ r. AreQueues s r after.state after.turns) (sym reading) queues_are;
         objects = subst (λ r. AreObjects s r after.versions after.live after.objects) (sym reading)
             (subst (AreObjects s (gone_on_by kept.reading task.number 1) after.versions after.live) (sym made)
-            (objects.finished s (lawful G kept frame has) kept.reading kept.versions kept.live kept.objects has.core.objects task.number task.path task.done (known G kept frame has)
-            has.of.frame has.of.live after.live does after.versions is no_object no_spawn last settled ended only));
+            (objects.finished s (lawful G kept frame has) kept.reading kept.versions between kept.objects
+            (objects.as-before s kept.reading kept.versions kept.live between kept.objects given has.core.objects) task.number task.path task.done (known G kept frame has)
+            here-still.was here-still.live after.live does after.versions is no_object no_spawn last settled ended only));
         frames = subst (λ r. AreFrames G task.plan r after.state after.live after.frames) (sym reading)
             (subst (AreFrames G task.plan (gone_on_by kept.reading task.number 1) after.state after.live) (sym count) frames_are);
         booked = subst (λ r. AreBooked G task.plan r after.faults) (sym reading) booked_are;
+        counted = counted_are;
       }
 
       pub ends-so : IsStep G kept after task step.Ended
-      ends-so = (core-ended, last, ap is_spawn is ∙ no_spawn, only.changed, record { live = only.others; active_are = gone.others }, alone, begun)
+      ends-so = (core-ended, last, ap is_spawn is ∙ no_spawn, only.changed, record { live = stays; active_are = gone.others }, alone, begun)
+        where
+          stays : (other : ℕ) → other ≢ task.number → option_map as_given (live_at after.live other) ≡ option_map as_given (live_at kept.live other)
+          stays other differs = others-given between after.live task.number None only other differs ∙ given other
 
     pub is-fault : (fault : Fault) → effect_at G task.plan task.path task.done has.is.alone.top ≡ faults fault.kind → fault.path ≡ task.path
         → fault.place ≡ G.place_of task.plan.body has.is.alone.top.local → IsFaultOf G task.plan fault
@@ -86,9 +101,20 @@ module _ {B L : Type 0} (G : Ghosts B L) (kept : KeptView) (frame : FrameAtCoreV
         subst (IsFaultOf G task.plan) (let same : record { path = task.path; place = fault.place; kind = fault.kind } ≡ fault = λ i. record { path = sym path i; place = fault.place; kind = fault.kind } in same)
         (booked.fault-of-step G task.plan task.path task.done has.is.alone.top fault.kind fault.place has.is.alone.stands effect place)
 
-    module _ (after : KeptView) (settled : IsSettled kept.versions task.number) (may : MayJoin kept.state task.number) (only : IsOnlyLive kept.live after.live task.number None) where
+    -- its failed children, where it ends by a fault: its parent has one more
+    pub counted-fault : (between : NumberedFrames) (then_live : NumberedFrames) (fault : Fault) → fault.path ≡ task.path → HasOneFailed kept.live between has.of.frame.parent → IsOnlyLive between then_live task.number None
+        → AreCounted s then_live (kept.faults ++ fault ∷ [])
+    counted-fault between then_live fault path one only =
+        counted.failed s kept.live kept.faults has.core.counted then_live task.number has.of.frame has.of.live between (kept.faults ++ fault ∷ []) fault (path ∙ sym has.of.path)
+        (ap (has_failed kept.faults) has.of.path
+        ∙ never-failed kept.faults task.path (booked.fresh G task.plan kept.reading task.number task.path task.done (known G kept frame has) has.core.queues.fit.tasks kept.faults has.core.booked has.is.alone.stands.left))
+        refl one only
+        (λ m i above at own_path.
+        waiting.parent-is G task.plan (lawful G kept frame has) kept.reading kept.state kept.turns kept.live kept.frames has.core.queues has.core.frames m above at task.number i has.of.frame has.of.live own_path)
+
+    module _ (after : KeptView) (settled : IsSettled kept.versions task.number) (may : MayJoin kept.state task.number) where
       -- by the end that it asks for
-      pub ends-quietly : after ≡ record kept {
+      pub ends-quietly : IsOnlyLive kept.live after.live task.number None → after ≡ record kept {
         state = after_finish kept.state task.number;
         versions = objects_after_finish kept.versions task.number;
         reading = gone_on_by kept.reading task.number 1;
@@ -96,7 +122,7 @@ module _ {B L : Type 0} (G : Ghosts B L) (kept : KeptView) (frame : FrameAtCoreV
         turns = without kept.turns task.number;
       }
           → deed_now G task ≡ deed.Quiet → effect_at G task.plan task.path task.done has.is.alone.top ≡ ends → IsStep G kept after task step.Ended
-      ends-quietly is quiet effect =
+      ends-quietly only is quiet effect =
           subst (λ k. IsStep G kept k task step.Ended) (sym is)
           (ends-so deed.Quiet quiet refl refl
           (record kept {
@@ -106,14 +132,15 @@ module _ {B L : Type 0} (G : Ghosts B L) (kept : KeptView) (frame : FrameAtCoreV
             live = after.live;
             turns = without kept.turns task.number;
           })
-          settled only refl refl refl refl refl (no-child may) (one_gone kept.state task.number)
+          settled kept.live (λ m. refl) only refl refl refl refl refl (no-child may) (one_gone kept.state task.number)
           (queues.finished s (lawful G kept frame has) kept.reading kept.state kept.turns has.core.queues task.number task.path task.done (known G kept frame has) deed.Quiet
           (after_finish kept.state task.number) (without kept.turns task.number) quiet refl last may refl refl)
           (live.leaves-finish G task.plan kept.reading kept.state kept.live kept.frames has.core.frames has.core.queues.tree task.number (after_finish kept.state task.number) after.live may refl only)
-          (booked.ended G task.plan kept.reading task.number task.path task.done (known G kept frame has) has.is.alone.top has.is.alone.stands last kept.faults effect has.core.booked))
+          (booked.ended G task.plan kept.reading task.number task.path task.done (known G kept frame has) has.is.alone.top has.is.alone.stands last kept.faults effect has.core.booked)
+          (counted.ended s kept.live kept.faults has.core.counted after.live task.number only))
 
       -- by a fault
-      pub ends-faulty : (fault : Fault) → after ≡ record kept {
+      pub ends-faulty : (between : NumberedFrames) → HasOneFailed kept.live between has.of.frame.parent → IsOnlyLive between after.live task.number None → (fault : Fault) → after ≡ record kept {
         state = after_finish kept.state task.number;
         versions = objects_after_finish kept.versions task.number;
         reading = gone_on_by kept.reading task.number 1;
@@ -123,7 +150,8 @@ module _ {B L : Type 0} (G : Ghosts B L) (kept : KeptView) (frame : FrameAtCoreV
       }
           → deed_now G task ≡ deed.Quiet → effect_at G task.plan task.path task.done has.is.alone.top ≡ faults fault.kind → fault.path ≡ task.path
           → fault.place ≡ G.place_of task.plan.body has.is.alone.top.local → IsStep G kept after task step.Ended
-      ends-faulty fault is quiet effect path place =
+      ends-faulty between one only fault is quiet effect path place =
+          let given = one-failed-given kept.live between has.of.frame.parent one in
           subst (λ k. IsStep G kept k task step.Ended) (sym is)
           (ends-so deed.Quiet quiet refl refl
           (record kept {
@@ -134,9 +162,11 @@ module _ {B L : Type 0} (G : Ghosts B L) (kept : KeptView) (frame : FrameAtCoreV
             turns = without kept.turns task.number;
             faults = kept.faults ++ fault ∷ [];
           })
-          settled only refl refl refl refl refl (no-child may) (one_gone kept.state task.number)
+          settled between given only refl refl refl refl refl (no-child may) (one_gone kept.state task.number)
           (queues.finished s (lawful G kept frame has) kept.reading kept.state kept.turns has.core.queues task.number task.path task.done (known G kept frame has) deed.Quiet
           (after_finish kept.state task.number) (without kept.turns task.number) quiet refl last may refl refl)
-          (live.leaves-finish G task.plan kept.reading kept.state kept.live kept.frames has.core.frames has.core.queues.tree task.number (after_finish kept.state task.number) after.live may refl only)
+          (live.leaves-finish G task.plan kept.reading kept.state between kept.frames (live.as-before G task.plan kept.reading kept.state kept.live kept.frames has.core.frames between given)
+          has.core.queues.tree task.number (after_finish kept.state task.number) after.live may refl only)
           (booked.faulted G task.plan kept.reading task.number task.path task.done (known G kept frame has) has.is.alone.top has.is.alone.stands last has.core.queues.fit.tasks
-          kept.faults (kept.faults ++ fault ∷ []) fault (is-fault fault effect path place) path refl has.core.booked))
+          kept.faults (kept.faults ++ fault ∷ []) fault (is-fault fault effect path place) path refl has.core.booked)
+          (counted-fault between after.live fault path one only))

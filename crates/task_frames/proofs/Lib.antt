@@ -9,15 +9,19 @@ pub mod Same
 -- a reading that goes on
 pub mod GoneOn
 pub mod CatchUp
+pub mod Failing
 -- names of what is held, and what a frame may ask its queues for by them
 pub mod Names
 pub mod LocalNames
 pub mod QueueUse
--- what the core keeps: of its queues, of its objects, of its frames, of its faults
+-- frames that were given so before and after
+pub mod AsGiven
+-- what the core keeps: of its queues, of its objects, of its frames, of its faults, of the children that failed
 pub mod Queues
 pub mod Objects
 pub mod Live
 pub mod Booked
+pub mod Counted
 -- what may be asked for a step, whom a frame waits for, and which frames may end
 pub mod Rights
 pub mod Waiting
@@ -36,6 +40,7 @@ pub mod Goings
 pub mod Endings
 pub mod Taking
 pub mod Asked
+pub mod Syncing
 pub mod Firsts
 pub mod Answered
 pub mod Tried

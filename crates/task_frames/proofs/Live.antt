@@ -34,7 +34,8 @@ use Rattle.serial_elision.proofs.NamesStay.{held-named}
 use Rattle.serial_elision.proofs.TaskSteps.{stands-one}
 use Rattle.task_frames.specs.Cores.{HasQueuesOnce, AreFrames, IsAsRead}
 use Rattle.task_frames.specs.Frames.{AreLocal}
-use Rattle.task_frames.specs.Records.{IsOnlyLive, LiveFrame, NumberedFrames, live_at}
+use Rattle.task_frames.specs.Records.{AreGivenSo, IsOnlyLive, LiveFrame, NumberedFrames, as_given, live_at}
+use Rattle.task_frames.proofs.AsGiven.{WasGiven, was-given}
 use Rattle.task_frames.proofs.LocalNames.{local-names}
 use Rattle.task_frames.proofs.Names.{name-origin, origin_in}
 use Rattle.task_frames.proofs.GoneOn.{child-spawned, number-by, other-gone_by, other-spawned, own-gone_by, parent-spawned, with-child}
@@ -371,6 +372,35 @@ module _ {B L : Type 0} (G : Ghosts B L) (plan : Plan B L) where
           (record { queues = λ i origin there. there; objects = λ i origin there. before_more r.objects o i origin there }) refl new (λ place x at_place queue also same. absurd (cc))
           (record { changed = own; others = λ m other. refl }) refl refl (λ m x y was now has. subst (HasTurn state) (same_Some x y (sym was ∙ now)) has) turn only
 
+    -- ---- a record in which each frame was given as before
+
+    read-as : (m : ℕ) (was frame : LiveFrame) → as_given was ≡ as_given frame → IsAsRead G plan r m was → IsAsRead G plan r m frame
+    read-as m was frame same told =
+        let bare : IsAsRead G plan r m (as_given was) = record { progress = told.progress; top = told.top; stands = told.stands; named = told.named; once = told.once } in
+        let now = subst (IsAsRead G plan r m) same bare in
+        record { progress = now.progress; top = now.top; stands = now.stands; named = now.named; once = now.once }
+
+    pub as-before : (then_live : NumberedFrames) → AreGivenSo live then_live → AreFrames G plan r state then_live frames
+    as-before then_live same =
+        let was : (m : ℕ) (frame : LiveFrame) → live_at then_live m ≡ Some frame → WasGiven live m frame = λ m frame at. was-given live then_live m frame (same m) at in
+        record {
+          told = λ m frame at. let it = was m frame at in read-as m it.was frame it.same (are.told m it.was it.live);
+          active_is = λ m frame at.
+              let it = was m frame at in
+              let own = are.active_is m it.was it.live in
+              (own.0, own.1, own.2 ∙ ap (λ (x : LiveFrame). x.parent) it.same);
+          live_is = λ m own at.
+              let found = are.live_is m own at in
+              let it = was-given then_live live m found.0 (sym (same m)) found.1 in
+              (it.was, it.live);
+          turns = λ m frame own at now begun.
+              let it = was m frame at in
+              are.turns m it.was own it.live now (subst (λ (x : LiveFrame). 0 < x.done) (sym it.same) begun);
+          latest = are.latest;
+          known = are.known;
+          count = are.count;
+        }
+
     -- ---- ends that are lent
 
     pub lent : IsTree state → (n : ℕ) (f : LiveFrame) → live_at live n ≡ Some f → (a : ActiveFrame) → active state n ≡ Some a → (list : List LentEnd) (after : QueueState) → after ≡ after_lend state a list
@@ -453,7 +483,7 @@ module _ {B L : Type 0} (G : Ghosts B L) (plan : Plan B L) where
           → f.path ≡ path → f.done ≡ k → StandsAt G plan path k top → StandsAt G plan path (k + 1) next → gives_at G plan path (k + 1) next ≡ gives_at G plan path k top
           → StandsAt G plan (path ++ index ∷ []) 0 child_top → map (give_in r) hs ≡ gives_at G plan (path ++ index ∷ []) 0 child_top → HasQueuesOnce hs
           → HasTurn state a → after ≡ after_spawn state a frames gives
-          → live_at then_live n ≡ Some (record f { done = k + 1 }) → live_at then_live frames ≡ Some (record { parent = Some n; path = path ++ index ∷ []; done = 0; holdings = hs })
+          → live_at then_live n ≡ Some (record f { done = k + 1 }) → live_at then_live frames ≡ Some (record { parent = Some n; path = path ++ index ∷ []; done = 0; holdings = hs; failed = 0 })
           → ((m : ℕ) → m ≢ n → m ≢ frames → live_at then_live m ≡ live_at live m)
           → AreFrames G plan (with-child r n (record { number = frames; path = path ++ index ∷ []; done = 0 })) after then_live (frames + 1)
       spawns bounds tree path k top next child_top index hs gives may after path_is done_is at then same begins names once turn is parent_live child_live others_live =
@@ -519,7 +549,7 @@ module _ {B L : Type 0} (G : Ghosts B L) (plan : Plan B L) where
 
           child-now : IsNewAt then_r spawned then_live frames
           child-now = record {
-            frame = record { parent = Some n; path = path ++ index ∷ []; done = 0; holdings = hs };
+            frame = record { parent = Some n; path = path ++ index ∷ []; done = 0; holdings = hs; failed = 0 };
             live_now = child_live;
             told = record {
               progress = child-spawned r n new unread differ;

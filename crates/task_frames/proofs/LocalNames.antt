@@ -23,7 +23,8 @@ use Rattle.swan_model.specs.TrueFrames.{StandsAt, effect_at, gives_at, state_at}
 use Rattle.swan_model.proofs.ScriptSteps.{deed_is}
 use Rattle.serial_elision.proofs.Endings.{entry_now}
 use Rattle.serial_elision.proofs.NamesStay.{names-stay}
-use Rattle.serial_elision.proofs.TaskSteps.{stands-one, stood-before}
+use Rattle.serial_elision.proofs.Onward.{stood-before}
+use Rattle.serial_elision.proofs.TaskSteps.{stands-one}
 use Rattle.task_frames.specs.Frames.{AreLocal, is_local}
 
 -- an effect after which the task, where it goes on, holds this
@@ -101,8 +102,8 @@ module _ {B L : Type 0} (G : Ghosts B L) (plan : Plan B L) (bounds : IsWithinBou
             let is : done ≡ goes_on next stood.store = ap (effect_at G plan path k) (sym same) ∙ goes in
             subst (Keeps top.holdings) is (keeps-of top (goes-local does next stood.store done is now))
         | inr spawn ↦
-            let is : done ≡ spawns next spawn.0 stood.store = ap (effect_at G plan path k) (sym same) ∙ spawn.1 in
-            subst (Keeps top.holdings) is (keeps-of top (spawns-local does next spawn.0 stood.store done is now))
+            let is : done ≡ spawns spawn.0 spawn.1 stood.store = ap (effect_at G plan path k) (sym same) ∙ spawn.2 in
+            ap (λ (a : Activation L). a.holdings) spawn.3 ∙ subst (Keeps top.holdings) is (keeps-of top (spawns-local does spawn.0 spawn.1 stood.store done is now))
       ]
     where
       keeps-of : (a : Activation L) → is_local (asked (state_at G plan path k).store a.holdings (G.next plan.body a.local a.answer (a.fuel - 1)).1) ≡ true → Keeps a.holdings (effect_at G plan path k a)

@@ -1,7 +1,6 @@
 -- A frame that has no live child may end: it may join, and each of its versions has its value.
-use Rattle.std.proofs.Common.{◌≡◌, ◌≢◌, inl, inr, ℕ, ◌+◌, false, [], ◌∷◌, ◌++◌, None, Some, length, refl, sym, ap, ◌∙◌}
+use Rattle.std.proofs.Common.{◌≡◌, inl, inr, ℕ, ◌+◌, false, [], ◌∷◌, ◌++◌, None, Some, length, refl, sym, ap, ◌∙◌}
 use Rattle.std.proofs.lemmas.Bool.{cases_eq}
-use Rattle.std.proofs.lemmas.List.{same_from_push}
 use Rattle.std.proofs.lemmas.Option.{same_Some}
 use Rattle.swan_model.specs.declared.body.Body.{Ghosts}
 use Rattle.swan_model.specs.declared.origin.Origin.{Origin}
@@ -28,7 +27,7 @@ use Rattle.task_frames.specs.Cores.{AreFrames, AreObjects, AreQueues}
 use Rattle.object_versions.specs.Following.{WaitsForNone}
 use Rattle.task_frames.specs.Records.{IsLiveChild, LiveFrame, NumberedFrames, live_at}
 use Rattle.task_frames.proofs.Queues.{next-does}
-use Rattle.task_frames.proofs.Waiting.{same-path}
+use Rattle.task_frames.proofs.Waiting.{active-child}
 use Rattle.swan_model.proofs.Paths.{not_root}
 
 module _ {B L : Type 0} (G : Ghosts B L) (plan : Plan B L) (lawful : IsLawful (script G plan)) (r : Reading) (state : QueueState) (turns : Frames) (live : NumberedFrames) (frames : ℕ)
@@ -89,22 +88,6 @@ module _ {B L : Type 0} (G : Ghosts B L) (plan : Plan B L) (lawful : IsLawful (s
       ]
     ]
 
-    -- a live frame right below this one is an active child
-    active-child : (m index : ℕ) (g : LiveFrame) → live_at live m ≡ Some g → g.path ≡ f.path ++ index ∷ [] → IsActiveChild state n m
-    active-child m index g at path =
-        let own = are.active_is n f there in
-        let mine = same-path G plan lawful r state turns live frames queues are n f own.0 there own.1 in
-        let it = are.active_is m g at in
-        let theirs = same-path G plan lawful r state turns live frames queues are m g it.0 at it.1 in
-        let some : m ≢ 0 = λ root.
-        let top = queues.follow.root it.0 (ap (active state) (sym root) ∙ it.1) in
-        not_root f.path [] index (sym path ∙ theirs ∙ top.0) in
-        let parent = queues.follow.others m it.0 it.1 some in
-        let of = queues.follow.children m parent.0 it.0 it.1 parent.1 in
-        let same = same_from_push of.above.path f.path of.index index (sym of.path ∙ sym theirs ∙ path) in
-        let one : parent.0 ≡ n = queues.follow.different parent.0 n of.above own.0 of.live own.1 (same.0 ∙ mine) in
-        record { frame = it.0; live = it.1; of = parent.1 ∙ ap Some one }
-
     pub may-end : WaitsForNone versions n → IsSettled versions n
     may-end ready =
         ended_children s r versions n p have.follow (are.told n f there).progress ready children
@@ -117,7 +100,7 @@ module _ {B L : Type 0} (G : Ghosts B L) (plan : Plan B L) (lawful : IsLawful (s
             | inr found ↦
                 let told = are.told m found.0 found.1 in
                 let same : record { number = m; path = found.0.path; done = found.0.done } ≡ below = same_Some _ below (sym told.progress ∙ known) in
-                absurd (none-active m (active-child m index found.0 found.1 (ap (λ (q : Progress). q.path) same ∙ path)))
+                absurd (none-active m (active-child G plan lawful r state turns live frames queues are n f there m index found.0 found.1 (ap (λ (q : Progress). q.path) same ∙ path)))
             | inl none ↦ elim (cases_eq m 0) [
               | inl root ↦
                   let it = have.follow.root in

@@ -33,7 +33,8 @@ use Rattle.serial_elision.specs.Laws.{IsObjectOf}
 use Rattle.task_frames.specs.Cores.{AreObjects, HasObjects, IsPlacedSo, IsRootObject}
 use Rattle.object_versions.specs.Following.{WaitsForNone}
 use Rattle.task_frames.specs.Frames.{AreLocal}
-use Rattle.task_frames.specs.Records.{IsOnlyLive, LiveFrame, NumberedFrames, live_at}
+use Rattle.task_frames.specs.Records.{AreGivenSo, IsOnlyLive, LiveFrame, NumberedFrames, live_at}
+use Rattle.task_frames.proofs.AsGiven.{WasGiven, none-given, was-given}
 use Rattle.task_frames.proofs.CatchUp.{caught-up}
 use Rattle.task_frames.proofs.Queues.{next-does}
 use Rattle.task_frames.proofs.GoneOn.{own-gone}
@@ -93,6 +94,23 @@ written-keep before n place value object stands = record { on = on; back = back 
       | inl here ↦ (object, ap (λ k. placed_at before k at) own ∙ ap (placed_at before n) here ∙ stands)
     ]
   ]
+
+-- in a record in which each frame was given as before
+pub as-before : (s : Script) (r : Reading) (versions : VersionState) (live then_live : NumberedFrames) (objects : ℕ) → AreGivenSo live then_live → AreObjects s r versions live objects
+    → AreObjects s r versions then_live objects
+as-before s r versions live then_live objects same are =
+    let was : (m : ℕ) (frame : LiveFrame) → live_at then_live m ≡ Some frame → WasGiven live m frame = λ m frame at. was-given live then_live m frame (same m) at in
+    let none : (m : ℕ) → live_at then_live m ≡ None → live_at live m ≡ None = λ m gone. none-given live then_live m (same m) gone in
+    record {
+      follow = are.follow;
+      known = are.known;
+      count = are.count;
+      each = λ m frame at. let it = was m frame at in subst (λ (x : LiveFrame). HasObjects versions m x.holdings) it.same (are.each m it.was it.live);
+      begun = λ m frame at some. let it = was m frame at in are.begun m it.was it.live (subst (λ (x : LiveFrame). 0 < x.done) (sym it.same) some);
+      gone = λ m place object gone some at. are.gone m place object (none m gone) some at;
+      roots = are.roots;
+      over = λ gone. are.over (none 0 gone);
+    }
 
 module _ (s : Script) (lawful : IsLawful s) (r : Reading) (versions : VersionState) (live : NumberedFrames) (objects : ℕ) (are : AreObjects s r versions live objects)
     (n : ℕ) (path : List ℕ) (k : ℕ) (known : frame_of r n ≡ Some (record { number = n; path = path; done = k }))

@@ -46,7 +46,8 @@ use Rattle.serial_elision.specs.Laws.{IsObjectOf}
 use Rattle.swan_model.proofs.RootLists.{length-queue_holdings}
 use Rattle.serial_elision.proofs.RootNames.{root-object_name, root-queue_name}
 use Rattle.serial_elision.proofs.TaskSteps.{root_stands}
-use Rattle.task_frames.specs.Cores.{HasQueuesOnce, AreBooked, AreFrames, AreObjects, AreQueues, HasEnded, HasObjects, IsPlacedSo, IsAsRead}
+use Rattle.serial_elision.specs.Caught.{children_by, children_by_sync, failed_children}
+use Rattle.task_frames.specs.Cores.{HasQueuesOnce, AreBooked, AreCounted, AreFrames, AreObjects, AreQueues, HasEnded, HasObjects, IsPlacedSo, IsAsRead}
 use Rattle.task_frames.specs.Frames.{IsPlan}
 use Rattle.task_frames.specs.Opened.{AreFirstObjects, AreFirstQueues, roots_to}
 use Rattle.task_frames.specs.Records.{LiveFrame, NumberedFrames, live_at}
@@ -237,7 +238,7 @@ root-holding queues objects place h at = elim (append_cases (queue_holdings 0 qu
 
 module _ {B L : Type 0} (G : Ghosts B L) (plan : Plan B L) (sound : IsPlan plan) (lawful : IsLawful (script G plan)) (state : QueueState) (versions : VersionState) (live : NumberedFrames)
     (queues : AreFirstQueues (script G plan) state (length (script G plan).queues)) (objects : AreFirstObjects (script G plan) versions (length (script G plan).queues) (length (script G plan).objects))
-    (own : live_at live 0 ≡ Some (record { parent = None; path = []; done = 0; holdings = root_holdings plan.roots })) (others : (n : ℕ) → n ≢ 0 → live_at live n ≡ None) where
+    (own : live_at live 0 ≡ Some (record { parent = None; path = []; done = 0; holdings = root_holdings plan.roots; failed = 0 })) (others : (n : ℕ) → n ≢ 0 → live_at live n ≡ None) where
   abbrev s : Script
   s = script G plan
 
@@ -245,7 +246,7 @@ module _ {B L : Type 0} (G : Ghosts B L) (plan : Plan B L) (sound : IsPlan plan)
   first-reading = at_start (roots_to (length s.queues)) (roots_to (length s.objects))
 
   abbrev first-frame : LiveFrame
-  first-frame = record { parent = None; path = []; done = 0; holdings = root_holdings plan.roots }
+  first-frame = record { parent = None; path = []; done = 0; holdings = root_holdings plan.roots; failed = 0 }
 
   -- only the root is live
   root-one : (n : ℕ) (frame : LiveFrame) → live_at live n ≡ Some frame → (n ≡ 0) × (frame ≡ first-frame)
@@ -388,6 +389,16 @@ module _ {B L : Type 0} (G : Ghosts B L) (plan : Plan B L) (sound : IsPlan plan)
     known : (i : ℕ) (progress : Progress) → slice_get first-reading.frames i ≡ Some progress → progress.number < 1
     known zero progress at = let it : progress.number ≡ 0 = ap (λ (q : Progress). q.number) (sym (same_Some _ progress at)) in omega (arith, it)
     known (suc i) progress at = absurd (cc)
+
+  -- nobody has failed children
+  pub counted-open : AreCounted s live []
+  counted-open = record {
+    counts = λ m frame at.
+        subst (λ (x : LiveFrame). x.failed ≡ failed_children [] x.path (children_by_sync s x.path x.done) (children_by s x.path x.done)) (sym (root-one m frame at).1) refl;
+    since = λ m above child frame at of above_at.
+        let none : None ≡ Some above = ap (λ (x : LiveFrame). x.parent) (sym (root-one m child at).1) ∙ of in
+        absurd (cc);
+  }
 
   pub booked-open : AreBooked G plan first-reading []
   booked-open = record {

@@ -15,7 +15,9 @@ use Rattle.swan_model.specs.declared.plan.TheConstants.{FUEL_MOST}
 use Rattle.swan_model.specs.declared.rights.Give.{Give}
 use Rattle.swan_model.specs.declared.rights.Mode.{Mode}
 use Rattle.swan_model.specs.declared.rights.TheConstants.{GIVES_MOST}
+use Rattle.swan_model.specs.declared.script.Deed.TheVariants as deed
 use Rattle.swan_model.specs.declared.script.Script.{Script}
+use Rattle.swan_model.specs.Elision.{outcome}
 use Rattle.swan_model.specs.Granted.{is_spawn}
 use Rattle.swan_model.specs.Lawful.{IsLawful}
 use Rattle.swan_model.specs.QueueFollows.{NextSpawnGivesQueues}
@@ -33,23 +35,29 @@ use Rattle.queues.specs.Turned.{AreApart, AreGivenTurns, AreOlder}
 use Rattle.queues.proofs.ActiveAfter.{child_spawned, others_spawned, parent_spawned}
 use Rattle.queues.proofs.Match.{not_active}
 use Rattle.queues.proofs.TurnsSpawned.{turns_older}
+use Rattle.serial_elision.specs.Caught.{has_failed, once_ended}
 use Rattle.serial_elision.specs.TaskSteps.{IsAsking, Spawns, child_activation, parent_activation}
+use Rattle.serial_elision.proofs.Caught.{children-counted}
 use Rattle.serial_elision.proofs.AskMakes.{aliased, spawns-child, too-dear, too-deep}
 use Rattle.serial_elision.proofs.FewHeld.{given-many}
 use Rattle.serial_elision.proofs.Held.{used-at}
-use Rattle.serial_elision.proofs.TaskSteps.{spawns_child, spawns_next, top_path}
+use Rattle.serial_elision.proofs.Onward.{spawns_next}
+use Rattle.serial_elision.proofs.TaskSteps.{spawns_child, top_path}
 use Rattle.task_frames.specs.declared.stage.Stage.TheVariants.{Ready}
 use Rattle.task_frames.specs.declared.step.Step.{Step}
 use Rattle.task_frames.specs.declared.step.Step.TheVariants as step
-use Rattle.task_frames.specs.Cores.{AreBooked, AreFrames, AreObjects, AreQueues, FrameAtCoreView, HasIt, IsAtCore, IsCore, KeptView, MayBegin, Mid, asking}
+use Rattle.task_frames.specs.Cores.{AreBooked, AreCounted, AreFrames, AreObjects, AreQueues, FrameAtCoreView, HasIt, IsAtCore, IsCore, KeptView, MayBegin, Mid, asking}
 use Rattle.task_frames.specs.Frames.{TaskView}
 use Rattle.task_frames.specs.Giving.{AreMade, GivesObjects, queue_rights}
-use Rattle.task_frames.specs.Records.{LiveFrame, come_to, live_at}
+use Rattle.task_frames.specs.Records.{LiveFrame, as_given, come_to, live_at}
 use Rattle.task_frames.specs.Resumes.{EndsTaskByFault, IsStep}
 use Rattle.task_frames.proofs.Asked.{ends-by}
+use Rattle.task_frames.proofs.Booked as booked
+use Rattle.task_frames.proofs.Counted as counted
+use Rattle.task_frames.proofs.Failing.{never-failed}
 use Rattle.task_frames.proofs.FewFrames.{room-for-frame}
 use Rattle.task_frames.proofs.Giving.{giving-starts}
-use Rattle.task_frames.proofs.GoneOn.{with-child}
+use Rattle.task_frames.proofs.GoneOn.{child-spawned, with-child}
 use Rattle.task_frames.proofs.Goings.{done-is, known, lawful, own}
 use Rattle.task_frames.proofs.Names.{first-given}
 use Rattle.task_frames.proofs.Served.{same-mode}
@@ -241,7 +249,7 @@ module _ {B L : Type 0} (G : Ghosts B L) (kept : KeptView) (mid : Mid B L) (chil
           pub made : AreMade s kept.reading kept.versions after.versions (record { number = n; path = task.path; done = task.done }) kept.frames child.gives (length child.gives)
           pub given_turns : AreGivenTurns kept.turns after.turns n kept.frames (queue_rights hs)
           pub parent : live_at after.live n ≡ Some (record f { done = task.done + 1 })
-          pub new : live_at after.live kept.frames ≡ Some (record { parent = Some n; path = task.path ++ task.children ∷ []; done = 0; holdings = hs })
+          pub new : live_at after.live kept.frames ≡ Some (record { parent = Some n; path = task.path ++ task.children ∷ []; done = 0; holdings = hs; failed = 0 })
           pub others : (m : ℕ) → m ≢ n → m ≢ kept.frames → live_at after.live m ≡ live_at kept.live m
           pub rest : after ≡ record kept {
             state = after_spawn kept.state a kept.frames (queue_rights hs);
@@ -263,7 +271,7 @@ module _ {B L : Type 0} (G : Ghosts B L) (kept : KeptView) (mid : Mid B L) (chil
             turns_are = is.given_turns;
             made = is.made;
             parent = is.parent;
-            new = is.new ∙ ap {B = Option LiveFrame} (λ i. Some (record { parent = Some n; path = task.path ++ i ∷ []; done = 0; holdings = hs })) children-so;
+            new = is.new ∙ ap {B = Option LiveFrame} (λ i. Some (record { parent = Some n; path = task.path ++ i ∷ []; done = 0; holdings = hs; failed = 0 })) children-so;
             others = is.others;
           }
 
@@ -280,29 +288,70 @@ module _ {B L : Type 0} (G : Ghosts B L) (kept : KeptView) (mid : Mid B L) (chil
             frames = kept.frames + 1;
           }
 
+          queues-then : AreQueues s (with-child kept.reading n new-frame) then-state after.turns
+          queues-then =
+              subst (λ p. AreQueues s (with-child kept.reading n p) then-state after.turns) named-frame
+              (spawning.queues-then G plan has.core.sound law kept.reading kept.state kept.turns kept.live kept.frames has.core.queues has.core.frames n f has.of.live a own-live task.path task.done top has.of.path done-so
+              has.is.alone.stands mid.local child spawn hs record-given alone back-so shallow kept.versions after.versions then-state after.turns after.live is-spawned)
+
+          booked-then : AreBooked G plan (with-child kept.reading n new-frame) kept.faults
+          booked-then =
+              subst (λ p. AreBooked G plan (with-child kept.reading n p) kept.faults) named-frame
+              (spawning.booked-then G plan has.core.sound law kept.reading kept.state kept.turns kept.live kept.frames has.core.queues has.core.frames n f has.of.live a own-live task.path task.done top has.of.path done-so
+              has.is.alone.stands mid.local child spawn hs record-given alone back-so shallow kept.versions after.versions then-state after.turns after.live is-spawned kept.faults has.core.booked)
+
+          free : active kept.state kept.frames ≡ None
+          free = not_active kept.state has.core.queues.tree kept.frames may-spawn.newest
+
+          other-number : kept.frames ≢ n
+          other-number same = omega (arith, number-lesser, same)
+
+          child-stands : StandsAt G plan (task.path ++ task.children ∷ []) 0 (child_activation top child spawn.holdings)
+          child-stands =
+              subst (λ i. StandsAt G plan (task.path ++ i ∷ []) 0 (child_activation top child spawn.holdings)) (sym children-so)
+              (subst (λ q. StandsAt G plan (q ++ top.children ∷ []) 0 (child_activation top child spawn.holdings)) path-so
+              (spawns_child G plan task.path task.done top has.is.alone.stands (parent_activation (after_next top mid.local) child) (child_activation top child spawn.holdings) spawn.store spawn.effect))
+
+          -- no fault of the child is booked, since it has an entry left
+          unfailed : has_failed kept.faults (task.path ++ task.children ∷ []) ≡ false
+          unfailed =
+              never-failed kept.faults (task.path ++ task.children ∷ [])
+              (booked.fresh G plan (with-child kept.reading n new-frame) kept.frames (task.path ++ task.children ∷ []) 0
+              (child-spawned kept.reading n new-frame (spawning.next-unread G plan kept.reading kept.state kept.live kept.frames has.core.frames) other-number)
+              queues-then.fit.tasks kept.faults booked-then child-stands.left)
+
+          -- and no frame is its child yet
+          childless : (m : ℕ) (frame : LiveFrame) → live_at kept.live m ≡ Some frame → frame.parent ≢ Some kept.frames
+          childless m frame at is_child =
+              let it = has.core.frames.active_is m frame at in
+              let above = has.core.queues.follow.children m kept.frames it.0 it.1 (it.2 ∙ is_child) in
+              let both : None ≡ Some above.above = sym free ∙ above.live in
+              absurd (cc)
+
+          counted-then : AreCounted s after.live kept.faults
+          counted-then =
+              counted.spawned s kept.live kept.faults has.core.counted after.live n f has.of.live task.path task.done kept.frames
+              (record { parent = Some n; path = task.path ++ task.children ∷ []; done = 0; holdings = hs; failed = 0 }) has.of.path done-so (deed.Spawn spawn.gives) spawn.deed refl (λ same. absurd (cc))
+              (ap (λ i. task.path ++ i ∷ []) (children-so ∙ children-counted G plan task.path task.done top has.is.alone.stands)) refl refl refl unfailed other-number childless
+              is.parent is.new is.others
+
           core-then : IsCore G plan then-kept
           core-then = record {
             sound = has.core.sound;
             name = has.core.name;
-            queues = subst (λ p. AreQueues s (with-child kept.reading n p) then-state after.turns) named-frame
-                (spawning.queues-then G plan has.core.sound law kept.reading kept.state kept.turns kept.live kept.frames has.core.queues has.core.frames n f has.of.live a own-live task.path task.done top has.of.path done-so
-                has.is.alone.stands mid.local child spawn hs record-given alone back-so shallow kept.versions after.versions then-state after.turns after.live is-spawned);
+            queues = queues-then;
             objects = subst (λ p. AreObjects s (with-child kept.reading n p) after.versions after.live kept.objects) named-frame
                 (spawning.objects-then G plan has.core.sound law kept.reading kept.state kept.turns kept.live kept.frames has.core.queues has.core.frames n f has.of.live a own-live task.path task.done top has.of.path done-so
                 has.is.alone.stands mid.local child spawn hs record-given alone back-so shallow kept.versions after.versions then-state after.turns after.live is-spawned kept.objects has.core.objects begun.ready);
             frames = subst (λ p. AreFrames G plan (with-child kept.reading n p) then-state after.live (kept.frames + 1)) named-frame
                 (spawning.frames-then G plan has.core.sound law kept.reading kept.state kept.turns kept.live kept.frames has.core.queues has.core.frames n f has.of.live a own-live task.path task.done top has.of.path done-so
                 has.is.alone.stands mid.local child spawn hs record-given alone back-so shallow kept.versions after.versions then-state after.turns after.live is-spawned (begun.turn a own-live));
-            booked = subst (λ p. AreBooked G plan (with-child kept.reading n p) kept.faults) named-frame
-                (spawning.booked-then G plan has.core.sound law kept.reading kept.state kept.turns kept.live kept.frames has.core.queues has.core.frames n f has.of.live a own-live task.path task.done top has.of.path done-so
-                has.is.alone.stands mid.local child spawn hs record-given alone back-so shallow kept.versions after.versions then-state after.turns after.live is-spawned kept.faults has.core.booked);
+            booked = booked-then;
+            counted = counted-then;
           }
 
           core-after : IsCore G plan after
           core-after = subst (IsCore G plan) (sym is.rest) core-then
-
-          free : active kept.state kept.frames ≡ None
-          free = not_active kept.state has.core.queues.tree kept.frames may-spawn.newest
 
           active-after : (m : ℕ) → active after.state m ≡ active then-state m
           active-after m = ap (λ (k : KeptView). active k.state m) is.rest
@@ -311,7 +360,7 @@ module _ {B L : Type 0} (G : Ghosts B L) (kept : KeptView) (mid : Mid B L) (chil
           parent-at = record {
             plan = has.is.plan;
             alone = record {
-              top = parent_activation (after_next top mid.local) child;
+              top = once_ended (outcome G plan).faults (parent_activation (after_next top mid.local) child) (child_activation top child spawn.holdings);
               stands = spawns_next G plan task.path task.done top has.is.alone.stands (parent_activation (after_next top mid.local) child) (child_activation top child spawn.holdings) spawn.store spawn.effect;
               stage = (refl, ap (λ k. k - child.fuel) has.is.alone.stage.1, refl);
               modes = has.is.alone.modes;
@@ -323,12 +372,6 @@ module _ {B L : Type 0} (G : Ghosts B L) (kept : KeptView) (mid : Mid B L) (chil
             };
             since = refl;
           }
-
-          child-stands : StandsAt G plan (task.path ++ task.children ∷ []) 0 (child_activation top child spawn.holdings)
-          child-stands =
-              subst (λ i. StandsAt G plan (task.path ++ i ∷ []) 0 (child_activation top child spawn.holdings)) (sym children-so)
-              (subst (λ q. StandsAt G plan (q ++ top.children ∷ []) 0 (child_activation top child spawn.holdings)) path-so
-              (spawns_child G plan task.path task.done top has.is.alone.stands (parent_activation (after_next top mid.local) child) (child_activation top child spawn.holdings) spawn.store spawn.effect))
 
           child-at : IsAtCore G (record { task = child-task; stage = Ready child.local answer.Start })
           child-at = record {
@@ -347,9 +390,6 @@ module _ {B L : Type 0} (G : Ghosts B L) (kept : KeptView) (mid : Mid B L) (chil
             since = refl;
           }
 
-          other-number : kept.frames ≢ n
-          other-number same = omega (arith, number-lesser, same)
-
           pub spawned-step : IsStep G kept after task (step.Spawned (record { task = parent-task; stage = Ready mid.local answer.Nothing }) (record { task = child-task; stage = Ready child.local answer.Start }))
           spawned-step = (
             record {
@@ -361,7 +401,7 @@ module _ {B L : Type 0} (G : Ghosts B L) (kept : KeptView) (mid : Mid B L) (chil
             record {
               core = core-after;
               is = child-at;
-              of = record { frame = record { parent = Some n; path = task.path ++ task.children ∷ []; done = 0; holdings = hs }; live = is.new; path = refl; done = refl; holdings = refl };
+              of = record { frame = record { parent = Some n; path = task.path ++ task.children ∷ []; done = 0; holdings = hs; failed = 0 }; live = is.new; path = refl; done = refl; holdings = refl };
               back = λ x now. ap (λ (y : ActiveFrame). y.lent) (same_Some x (child_of a kept.frames (queue_rights hs)) (sym now ∙ active-after kept.frames ∙ child_spawned kept.state n kept.frames a (queue_rights hs) own-live free));
             },
             refl,
@@ -369,7 +409,7 @@ module _ {B L : Type 0} (G : Ghosts B L) (kept : KeptView) (mid : Mid B L) (chil
             ap is_spawn spawn.deed,
             child-free,
             record {
-              live = λ m apart. is.others m apart.0 apart.1;
+              live = λ m apart. ap (option_map as_given) (is.others m apart.0 apart.1);
               active_are = λ m apart. active-after m ∙ others_spawned kept.state n kept.frames a (queue_rights hs) own-live free m apart.0 apart.1;
             },
             begun,
@@ -430,7 +470,7 @@ module _ {B L : Type 0} (G : Ghosts B L) (kept : KeptView) (mid : Mid B L) (chil
           pub same : handed ≡ record kept { name = handed.name; run = handed.run; state = handed.state; versions = handed.versions; turns = handed.turns }
           pub path_is : path ≡ task.path ++ task.children ∷ []
           pub parent : live_at after.live m ≡ option_map (come_to (done + 1)) (live_at handed.live m)
-          pub new : live_at after.live handed.frames ≡ Some (record { parent = Some m; path = path; done = 0; holdings = hs })
+          pub new : live_at after.live handed.frames ≡ Some (record { parent = Some m; path = path; done = 0; holdings = hs; failed = 0 })
           pub others : (x : ℕ) → x ≢ m → x ≢ handed.frames → live_at after.live x ≡ live_at handed.live x
           pub noted : after ≡ record handed {
             reading = record handed.reading { frames = (gone_on_by handed.reading m 1).frames ++ (record { number = handed.frames; path = path; done = 0 }) ∷ [] };
@@ -472,7 +512,7 @@ module _ {B L : Type 0} (G : Ghosts B L) (kept : KeptView) (mid : Mid B L) (chil
               made = are.made gives-objects;
               given_turns = are.given_turns;
               parent = are.parent ∙ ap (option_map (come_to (task.done + 1))) (live-is n ∙ has.of.live);
-              new = ap (live_at after.live) (sym frames-are) ∙ are.new ∙ ap {B = Option LiveFrame} (λ q. Some (record { parent = Some n; path = q; done = 0; holdings = hs })) are.path_is;
+              new = ap (live_at after.live) (sym frames-are) ∙ are.new ∙ ap {B = Option LiveFrame} (λ q. Some (record { parent = Some n; path = q; done = 0; holdings = hs; failed = 0 })) are.path_is;
               others = λ m own_not child_not. are.others m own_not (λ is. child_not (is ∙ frames-are)) ∙ live-is m;
               rest = refl;
             }

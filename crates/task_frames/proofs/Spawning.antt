@@ -8,6 +8,7 @@ use Rattle.swan_model.specs.declared.path.TheConstants.{PATH_MOST}
 use Rattle.swan_model.specs.declared.plan.Plan.{Plan}
 use Rattle.swan_model.specs.declared.script.Deed.TheVariants as deed
 use Rattle.swan_model.specs.declared.script.Script.{Script}
+use Rattle.swan_model.specs.Elision.{outcome}
 use Rattle.swan_model.specs.Granted.{children_before}
 use Rattle.swan_model.specs.Lawful.{IsLawful}
 use Rattle.swan_model.specs.QueueFollows.{NextSpawnGivesQueues}
@@ -28,9 +29,11 @@ use Rattle.queues.specs.Asks.{MaySpawn}
 use Rattle.queues.specs.Turned.{AreGivenTurns}
 use Rattle.queues.proofs.Fitting.{fits_comes}
 use Rattle.queues.proofs.Lineage.{spawns_by}
+use Rattle.serial_elision.specs.Caught.{once_ended}
 use Rattle.serial_elision.specs.TaskSteps.{Spawns, child_activation, parent_activation}
 use Rattle.serial_elision.proofs.Room.{children-told, room-children}
-use Rattle.serial_elision.proofs.TaskSteps.{spawns_child, spawns_next, top_path}
+use Rattle.serial_elision.proofs.Onward.{spawns_next}
+use Rattle.serial_elision.proofs.TaskSteps.{spawns_child, top_path}
 use Rattle.task_frames.specs.Cores.{HasQueuesOnce, AreBooked, AreFrames, AreObjects, AreQueues}
 use Rattle.object_versions.specs.Following.{WaitsForNone}
 use Rattle.task_frames.specs.Frames.{IsPlan}
@@ -144,7 +147,11 @@ module _ {B L : Type 0} (G : Ghosts B L) (plan : Plan B L) (sound : IsPlan plan)
   abbrev pub new-frame : Progress
   new-frame = record { number = frames; path = path ++ top.children ∷ []; done = 0 }
 
-  parent-stands : StandsAt G plan path (k + 1) (parent_activation (after_next top local) child)
+  -- the parent at its next step, and the child at its first one
+  abbrev parent-next : Activation L
+  parent-next = once_ended (outcome G plan).faults (parent_activation (after_next top local) child) (child_activation top child spawn.holdings)
+
+  parent-stands : StandsAt G plan path (k + 1) parent-next
   parent-stands = spawns_next G plan path k top at (parent_activation (after_next top local) child) (child_activation top child spawn.holdings) spawn.store spawn.effect
 
   own-path : top.path ≡ path
@@ -167,7 +174,7 @@ module _ {B L : Type 0} (G : Ghosts B L) (plan : Plan B L) (sound : IsPlan plan)
     pub turns_are : AreGivenTurns turns then_turns n frames (queue_rights hs)
     pub made : AreMade s r versions then_versions (record { number = n; path = path; done = k }) frames child.gives (length child.gives)
     pub parent : live_at then_live n ≡ Some (record f { done = k + 1 })
-    pub new : live_at then_live frames ≡ Some (record { parent = Some n; path = path ++ top.children ∷ []; done = 0; holdings = hs })
+    pub new : live_at then_live frames ≡ Some (record { parent = Some n; path = path ++ top.children ∷ []; done = 0; holdings = hs; failed = 0 })
     pub others : (m : ℕ) → m ≢ n → m ≢ frames → live_at then_live m ≡ live_at live m
 
   module _ (back : a.lent ≡ None) (deep : length path < PATH_MOST) (versions then_versions : VersionState) (then_state : QueueState) (then_turns : Frames) (then_live : NumberedFrames)
@@ -180,12 +187,12 @@ module _ {B L : Type 0} (G : Ghosts B L) (plan : Plan B L) (sound : IsPlan plan)
 
     pub objects-then : (objects : ℕ) → AreObjects s r versions live objects → WaitsForNone versions n → AreObjects s (with-child r n new-frame) then_versions then_live objects
     objects-then objects have none =
-        spawned-objects s lawful r versions then_versions live then_live objects have n path k known f (record { parent = Some n; path = path ++ top.children ∷ []; done = 0; holdings = hs }) there frames differ
+        spawned-objects s lawful r versions then_versions live then_live objects have n path k known f (record { parent = Some n; path = path ++ top.children ∷ []; done = 0; holdings = hs; failed = 0 }) there frames differ
         (next-some G plan r state live frames are) child.gives given_is is.made new-frame reads none is.parent is.new refl is.others
 
     pub frames-then : HasTurn state a → AreFrames G plan (with-child r n new-frame) then_state then_live (frames + 1)
     frames-then turn =
-        live_frames.spawns G plan r state live frames are n f there a own then_live sound.lists queues.tree path k top (parent_activation (after_next top local) child) (child_activation top child spawn.holdings) top.children hs
+        live_frames.spawns G plan r state live frames are n f there a own then_live sound.lists queues.tree path k top parent-next (child_activation top child spawn.holdings) top.children hs
         (queue_rights hs) (may-spawn back deep) then_state path_is done_is at parent-stands spawn.names child-stands
         (child-named ∙ sym (sym (ap (λ q. gives_at G plan (q ++ top.children ∷ []) 0 (child_activation top child spawn.holdings)) own-path) ∙ spawn.begins)) child-once turn is.state_is is.parent is.new is.others
 

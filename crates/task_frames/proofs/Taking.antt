@@ -24,7 +24,10 @@ use Rattle.task_frames.specs.Cores.{FrameAtCoreView, HasIt, IsCore, IsGiven, IsO
 use Rattle.task_frames.specs.Frames.{AreEndsOf, AreLocal, FrameView, IsFrame, TaskView}
 use Rattle.task_frames.specs.Records.{IsOnlyLive, LiveFrame, NumberedFrames, come_at, come_to, live_at}
 use Rattle.task_frames.specs.Resumes.{EndsOf, HasLent, IsGivenAs, OthersStay}
+use Rattle.task_frames.proofs.AsGiven.{others-given}
 use Rattle.task_frames.proofs.Booked as booked
+use Rattle.task_frames.proofs.Counted as counted
+use Rattle.task_frames.proofs.Failing.{still-local}
 use Rattle.task_frames.proofs.EndsLent.{ends-are}
 use Rattle.task_frames.proofs.Given.{with-state}
 use Rattle.task_frames.proofs.Goings.{lawful, own}
@@ -104,6 +107,8 @@ module _ {B L : Type 0} (G : Ghosts B L) (kept : KeptView) (task : TaskView B L)
             frames = live.back G task.plan kept.reading kept.state kept.live kept.frames core.frames task.number f of.live active-so.0 active-so.1 after.live core.sound.lists core.queues.tree many task.path task.since
                 ends.deeds told.top is.alone.top (after_back kept.state task.number ends.deeds) of.path of.done was at-now local-now first-now refl only-now;
             booked = booked.goes G task.plan kept.reading task.number task.path task.since read-so many kept.faults at-now.left core.booked;
+            counted = counted.goes s kept.live kept.faults core.counted after.live task.number f of.live (record f { done = task.since + many }) only-now refl refl task.path task.since of.path of.done refl
+                (still-local s task.path task.since many local-now);
           }
 
       changed-now : IsOnlyFrame kept.state (after_back kept.state task.number ends.deeds) task.number (Some (record active-so.0 { deeds = ends.deeds; lent = None }))
@@ -121,7 +126,7 @@ module _ {B L : Type 0} (G : Ghosts B L) (kept : KeptView) (task : TaskView B L)
       taken = subst (λ k. HasIt G k (record { task = record task { since = task.done }; stage = stage })) (sym after_is) has-now
 
       pub taken-others : OthersStay kept after (λ other. other ≢ task.number)
-      taken-others = subst (λ k. OthersStay kept k (λ other. other ≢ task.number)) (sym after_is) (record { live = only.others; active_are = changed-now.others })
+      taken-others = subst (λ k. OthersStay kept k (λ other. other ≢ task.number)) (sym after_is) (record { live = others-given kept.live after.live task.number (Some (come_to task.done f)) only; active_are = changed-now.others })
 
 -- ---- it is given
 
@@ -141,6 +146,7 @@ module _ {B L : Type 0} (G : Ghosts B L) (kept : KeptView) (at : FrameAtCoreView
       objects = has.core.objects;
       frames = live.lent G at.task.plan kept.reading kept.state kept.live kept.frames has.core.frames has.core.queues.tree at.task.number has.of.frame has.of.live a a-live list (after_lend kept.state a list) refl;
       booked = has.core.booked;
+      counted = has.core.counted;
     })
 
     pub given-lent : HasLent kept after at.task.number

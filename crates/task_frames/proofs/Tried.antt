@@ -1,11 +1,10 @@
 -- A frame at the core whose next step is tried: its body says what it asks for, or it has no fuel for that.
-use Rattle.std.proofs.Common.{◌≡◌, ℕ, ◌+◌, ◌-◌, ◌<◌, false, None, List, [], ◌∷◌, ◌++◌, length, sym, ap, subst, ◌∙◌, arith}
+use Rattle.std.proofs.Common.{◌≡◌, ℕ, ◌+◌, ◌-◌, ◌<◌, false, Option, None, Some, length, refl, sym, ap, subst, ◌∙◌, arith}
 use Rattle.std.proofs.lemmas.Option.{same_Some}
 use Rattle.swan_model.specs.declared.body.Answer.{Answer}
 use Rattle.swan_model.specs.declared.body.Ask.{Ask}
 use Rattle.swan_model.specs.declared.body.Ask.TheVariants as ask
 use Rattle.swan_model.specs.declared.body.Body.{Ghosts}
-use Rattle.swan_model.specs.declared.fault.Fault.{Fault}
 use Rattle.swan_model.specs.declared.fault.FaultKind.{FaultKind}
 use Rattle.swan_model.specs.declared.fault.FaultKind.TheVariants as kind
 use Rattle.swan_model.specs.QueueState.{after_finish}
@@ -19,16 +18,19 @@ use Rattle.pop_order.specs.Frames.{HasNoChild, without}
 use Rattle.queues.specs.Asks.{IsOnTurn, MayJoin, OnNext}
 use Rattle.queues.proofs.TurnsGone.{turns_childless}
 use Rattle.swan_model.specs.QueueFollows.{next_queue_deed}
+use Rattle.serial_elision.specs.Caught.{children_by, children_by_sync}
 use Rattle.serial_elision.specs.TaskSteps.{EndsTask}
 use Rattle.serial_elision.proofs.AskSteps.{dry, finishes}
+use Rattle.serial_elision.proofs.FewMade.{few-times}
 use Rattle.serial_elision.proofs.TaskSteps.{ends_last, stands-one}
 use Rattle.task_frames.specs.declared.stage.Stage.TheVariants.{Ready}
 use Rattle.task_frames.specs.declared.step.Step.{Step}
 use Rattle.task_frames.specs.declared.step.Step.TheVariants as step
 use Rattle.task_frames.specs.Cores.{FrameAtCoreView, HasIt, KeptView, MayBegin, Mid, asking}
 use Rattle.task_frames.specs.Frames.{TaskView}
-use Rattle.task_frames.specs.Records.{IsLiveChild, IsOnlyLive}
+use Rattle.task_frames.specs.Records.{HasRoomForOne, IsLiveChild, IsOnlyLive, LiveFrame, live_at}
 use Rattle.task_frames.specs.Resumes.{EndsTaskByFault, IsLast, IsStep, deed_now}
+use Rattle.task_frames.proofs.Failing.{children-few, count-few}
 use Rattle.task_frames.proofs.Goings.{done-is, lawful, own}
 use Rattle.task_frames.proofs.MayEnd as ending
 
@@ -79,6 +81,26 @@ module _ {B L : Type 0} (G : Ghosts B L) (kept : KeptView) where
     fault-last place fault is =
         let top = has.is.alone.top in
         ends_last G frame.task.plan frame.task.path frame.task.done top has.is.alone.stands (ap is_end (is top has.is.alone.stands).0.effect)
+
+    -- the frame above it, where there is one, is live, and one failed child more of it can be counted
+    pub room-so : (f : LiveFrame) → live_at kept.live frame.task.number ≡ Some f → HasRoomForOne kept.live f.parent
+    room-so f there = by f.parent refl where
+      by : (parent : Option ℕ) → f.parent ≡ parent → HasRoomForOne kept.live parent
+      by None root = tt
+      by (Some parent) of =
+          let s = script G frame.task.plan in
+          let it = has.core.frames.active_is frame.task.number f there in
+          let above = has.core.queues.follow.children frame.task.number parent it.0 it.1 (it.2 ∙ of) in
+          let found = has.core.frames.live_is parent above.above above.live in
+          let x = found.0 in
+          let told = has.core.frames.told parent x found.1 in
+          let count = has.core.counted.counts parent x found.1 in
+          let few = count-few kept.faults x.path (children_by_sync s x.path x.done) (children_by s x.path x.done) in
+          let children = children-few s x.path x.done in
+          let left = told.stands.left in
+          let times_few = few-times G frame.task.plan x.path in
+          let most = has.is.plan.fuel in
+          (x, found.1, omega (arith, count, few, children, left, times_few, most))
 
     module _ (begun : MayBegin kept frame.task.number) (alone : (m : ℕ) → ¬ IsLiveChild kept.live frame.task.number m) where
       pub on-turn-so : IsOnTurn kept.name kept.state frame.task.number
@@ -175,12 +197,6 @@ pub left-over : (kept other after : KeptView) (n m : ℕ) → other ≡ kept →
 left-over kept other after n m same number name run is only =
     subst (λ (k : KeptView). (after ≡ record k { state = after_finish k.state m; versions = objects_after_finish k.versions m; reading = gone_on_by k.reading m 1; live = after.live; turns = without k.turns m })
     × IsOnlyLive k.live after.live m None) same (left-so other after n m number name run is only)
-
--- what is kept, with one fault more
-pub booked-kept : (kept now : KeptView) (faults : List Fault) (fault : Fault) → faults ≡ kept.faults ++ fault ∷ [] → kept ≡ now
-    → ◌≡◌ {A = KeptView} (record kept { faults = faults }) (record now { faults = now.faults ++ fault ∷ [] })
-booked-kept kept now faults fault is same =
-    ap {B = KeptView} (λ f. record kept { faults = f }) is ∙ ap {B = KeptView} (λ (k : KeptView). record k { faults = k.faults ++ fault ∷ [] }) same
 
 -- a step is the same whether or not its unit of fuel is taken
 pub paid-step : {B L : Type 0} (G : Ghosts B L) (before after : KeptView) (task : TaskView B L) (fuel : ℕ) (its : Step B L) → IsStep G before after (record task { fuel = fuel }) its → IsStep G before after task its

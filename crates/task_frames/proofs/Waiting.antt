@@ -1,17 +1,19 @@
 -- Whom a frame waits for: a live frame, which comes before it in serial order.
-use Rattle.std.proofs.Common.{◌≡◌, ◌⊎◌, inl, inr, ℕ, true, List, [], ◌∷◌, ◌++◌, Some, sym, ap, ◌∙◌}
+use Rattle.std.proofs.Common.{◌≡◌, ◌≢◌, ◌⊎◌, inl, inr, ℕ, true, List, [], ◌∷◌, ◌++◌, Some, sym, ap, ◌∙◌}
+use Rattle.std.proofs.lemmas.List.{same_from_push}
 use Rattle.std.proofs.lemmas.Option.{same_Some}
 use Rattle.swan_model.specs.declared.body.Body.{Ghosts}
 use Rattle.swan_model.specs.declared.plan.Plan.{Plan}
 use Rattle.swan_model.specs.declared.script.Script.{Script}
 use Rattle.swan_model.specs.Lawful.{IsLawful}
 use Rattle.swan_model.specs.PathOrder.{comes_before}
-use Rattle.swan_model.specs.QueueState.{ActiveFrame, IsEarlierPusher, IsPoppingChild, QueueState, active}
+use Rattle.swan_model.specs.QueueState.{ActiveFrame, IsActiveChild, IsEarlierPusher, IsPoppingChild, QueueState, active}
 use Rattle.swan_model.specs.Script.{script}
 use Rattle.swan_model.specs.SerialTime.{Progress, Reading}
 use Rattle.swan_model.specs.Versions.{Awaits, Placed, VersionState, owed, placed_at}
 use Rattle.swan_model.proofs.Elements.{option_cases}
 use Rattle.swan_model.proofs.PathOrder.{before-parent}
+use Rattle.swan_model.proofs.Paths.{not_root}
 use Rattle.object_versions.proofs.OwnersEarlier.{owner_earlier, owner_other}
 use Rattle.pop_order.specs.Frames.{Frames}
 use Rattle.pop_order.specs.Turns.{Blocks}
@@ -41,6 +43,26 @@ module _ {B L : Type 0} (G : Ghosts B L) (plan : Plan B L) (lawful : IsLawful (s
   module _ (n : ℕ) (f : LiveFrame) (there : live_at live n ≡ Some f) where
     own : (a : ActiveFrame) × (active state n ≡ Some a) × (f.path ≡ a.path)
     own = let it = are.active_is n f there in (it.0, it.1, same-path n f it.0 there it.1)
+
+    -- a live frame right below this one is an active child, and its parent in the record is this one
+    pub active-child : (m index : ℕ) (g : LiveFrame) → live_at live m ≡ Some g → g.path ≡ f.path ++ index ∷ [] → IsActiveChild state n m
+    active-child m index g at path =
+        let it = are.active_is m g at in
+        let theirs = same-path m g it.0 at it.1 in
+        let some : m ≢ 0 = λ root.
+        let top = queues.follow.root it.0 (ap (active state) (sym root) ∙ it.1) in
+        not_root f.path [] index (sym path ∙ theirs ∙ top.0) in
+        let parent = queues.follow.others m it.0 it.1 some in
+        let of = queues.follow.children m parent.0 it.0 it.1 parent.1 in
+        let same = same_from_push of.above.path f.path of.index index (sym of.path ∙ sym theirs ∙ path) in
+        let one : parent.0 ≡ n = queues.follow.different parent.0 n of.above own.0 of.live own.1 (same.0 ∙ own.2) in
+        record { frame = it.0; live = it.1; of = parent.1 ∙ ap Some one }
+
+    pub parent-is : (m index : ℕ) (g : LiveFrame) → live_at live m ≡ Some g → g.path ≡ f.path ++ index ∷ [] → g.parent ≡ Some n
+    parent-is m index g at path =
+        let child = active-child m index g at path in
+        let it = are.active_is m g at in
+        sym it.2 ∙ ap (λ (x : ActiveFrame). x.parent) (same_Some it.0 child.frame (sym it.1 ∙ child.live)) ∙ child.of
 
     -- an active child
     child-before : (m : ℕ) (other : ActiveFrame) → active state m ≡ Some other → other.parent ≡ Some n → IsLiveBefore live f.path m

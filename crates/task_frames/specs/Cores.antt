@@ -1,6 +1,6 @@
 -- The core of a run: what it keeps, and what holds of it.
 use Rattle.std.specs.Option.{ForSome}
-use Rattle.std.specs.Prelude.{◌≡◌, ◌≢◌, ℕ, ◌+◌, ◌-◌, ◌<◌, Bool, true, false, Option, Some, None, List, [], is_none, length, map, slice_get}
+use Rattle.std.specs.Prelude.{◌≡◌, ◌≢◌, ℕ, ◌+◌, ◌-◌, ◌<◌, ◌≤◌, Bool, true, false, Option, Some, None, List, [], ◌∷◌, ◌++◌, is_none, length, map, slice_get}
 use Rattle.swan_model.specs.declared.body.Ask.{Ask}
 use Rattle.swan_model.specs.declared.body.Body.{Ghosts}
 use Rattle.swan_model.specs.declared.fault.Fault.{Fault}
@@ -23,6 +23,7 @@ use Rattle.queues.specs.Asks.{IsRecorded, LentEnds}
 use Rattle.queues.specs.Tree.{IsTree}
 use Rattle.queues.specs.Turned.{AreTurns}
 use Rattle.serial_elision.specs.Bounds.{IsWithin}
+use Rattle.serial_elision.specs.Caught.{children_by, children_by_sync, failed_children}
 use Rattle.serial_elision.specs.Laws.{IsObjectOf}
 use Rattle.serial_elision.specs.TaskSteps.{IsFaultOf}
 use Rattle.object_versions.specs.Following.{WaitsForNone}
@@ -102,6 +103,23 @@ pub record AreObjects (s : Script) (r : Reading) (versions : VersionState) (live
   pub roots : (i : ℕ) → i < length s.objects → IsRootObject s r versions i
   pub over : live_at live 0 ≡ None → IsSettled versions 0
 
+-- ---- what is kept of failed children
+
+-- A task of this path, which has taken so many steps, has spawned this one since its last Sync.
+pub record IsSpawnedSince (s : Script) (path : List ℕ) (done : ℕ) (child : List ℕ) : Type 0 where
+  pub index : ℕ
+  pub own : child ≡ path ++ index ∷ []
+  pub since : children_by_sync s path done ≤ index
+  pub spawned : index < children_by s path done
+
+-- Each live frame has the number of those children since its last Sync of which a fault is booked. A child that is live was
+-- spawned since then.
+pub record AreCounted (s : Script) (live : NumberedFrames) (faults : List Fault) : Type 0 where
+  pub counts : (number : ℕ) (frame : LiveFrame) → live_at live number ≡ Some frame
+      → frame.failed ≡ failed_children faults frame.path (children_by_sync s frame.path frame.done) (children_by s frame.path frame.done)
+  pub since : (number parent : ℕ) (child frame : LiveFrame) → live_at live number ≡ Some child → child.parent ≡ Some parent → live_at live parent ≡ Some frame
+      → IsSpawnedSince s frame.path frame.done child.path
+
 -- ---- what is kept of the frames
 
 -- no queue stands at two places
@@ -150,7 +168,7 @@ module _ {B L : Type 0} (G : Ghosts B L) (plan : Plan B L) where
   -- ---- the core
 
   -- What a core keeps, for a plan: its queues have the plan's script as their name, and with its objects, its frames and its
-  -- booked faults it follows that script and one reading.
+  -- booked faults it follows that script and one reading. Of each live frame it knows how many children failed since the last Sync.
   pub record IsCore (kept : KeptView) : Type 0 where
     pub sound : IsPlan plan
     pub name : kept.name ≡ Some (script G plan)
@@ -158,6 +176,7 @@ module _ {B L : Type 0} (G : Ghosts B L) (plan : Plan B L) where
     pub objects : AreObjects (script G plan) kept.reading kept.versions kept.live kept.objects
     pub frames : AreFrames kept.reading kept.state kept.live kept.frames
     pub booked : AreBooked kept.reading kept.faults
+    pub counted : AreCounted (script G plan) kept.live kept.faults
 
 -- whether the root has ended
 abbrev pub is_over : KeptView → Bool

@@ -42,7 +42,7 @@ pub record AreFirstObjects (s : Script) (versions : VersionState) (first i : ℕ
 
 -- The record has the root alone, which holds this and has taken no step.
 abbrev pub IsRootAlone : NumberedFrames → List Holding → Type 0
-IsRootAlone live holdings = IsOnlyLive [] live 0 (Some (record { parent = None; path = []; done = 0; holdings = holdings }))
+IsRootAlone live holdings = IsOnlyLive [] live 0 (Some (record { parent = None; path = []; done = 0; holdings = holdings; failed = 0 }))
 
 -- What a core keeps at first, for a script: so many root queues and root objects, the root, which holds this, and nothing else.
 pub record IsKeptAtFirst (s : Script) (queues objects : ℕ) (holdings : List Holding) (kept : KeptView) : Type 0 where

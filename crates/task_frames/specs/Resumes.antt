@@ -1,6 +1,6 @@
 -- What the core makes of a frame that comes to it, and what it answers.
 use Rattle.std.specs.Prelude.{◌≡◌, ◌≢◌, ◌≤◌, ℕ, ◌+◌, ◌⊎◌, true, false, Some, None, List, [], ◌∷◌, ◌++◌, is_some, length}
-use Rattle.std.specs.Option.{ForSome}
+use Rattle.std.specs.Option.{ForSome, option_map}
 use Rattle.swan_model.specs.declared.body.Answer.TheVariants as answer
 use Rattle.swan_model.specs.declared.body.Ask.{Ask}
 use Rattle.swan_model.specs.declared.body.Ask.TheVariants as ask
@@ -37,7 +37,7 @@ use Rattle.task_frames.specs.declared.step.Step.TheVariants as step
 use Rattle.task_frames.specs.Cores.{MayBegin, FrameAtCoreView, CoreView, HasIt, IsCore, IsGiven, KeptView, after_coming_in}
 use Rattle.object_versions.specs.Following.{WaitsForNone}
 use Rattle.task_frames.specs.Frames.{FrameView, TaskView, is_whole, root_task}
-use Rattle.task_frames.specs.Records.{HasNoLiveChild, IsOldestChild, LiveFrame, NumberedFrames, live_at}
+use Rattle.task_frames.specs.Records.{HasNoLiveChild, IsOldestChild, LiveFrame, NumberedFrames, as_given, live_at}
 
 -- ---- waits
 
@@ -121,9 +121,10 @@ MayNotUse holdings (ask.Empty place) = number_at holdings place Pop ≡ None
 MayNotUse holdings (ask.Spawn new) = given holdings new.gives ≡ None
 MayNotUse holdings _ = ⊥
 
--- these frames are in the record, and among the queues, as before
+-- These frames are in the record as they were given, and among the queues as before. (How many of their children failed is what the
+-- core counts: `AreCounted`.)
 pub record OthersStay (before after : KeptView) (IsOther : ℕ → Type 0) : Type 0 where
-  pub live : (other : ℕ) → IsOther other → live_at after.live other ≡ live_at before.live other
+  pub live : (other : ℕ) → IsOther other → option_map as_given (live_at after.live other) ≡ option_map as_given (live_at before.live other)
   pub active_are : (other : ℕ) → IsOther other → active after.state other ≡ active before.state other
 
 -- the same task with one step more done

@@ -175,6 +175,7 @@ fn root_alone(alloc: Global, holdings: &[Holding]) -> Result<LiveRecord, NoMemor
         path: Path::root(alloc),
         done: 0,
         holdings: Vec::from_slice(alloc, holdings)?,
+        failed: 0,
     };
     let mut live = LiveRecord::new(alloc);
     live.enter_root(0, root)?;

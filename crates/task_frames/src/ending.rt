@@ -1,5 +1,5 @@
 // Steps that end their frame.
-ghost use Rattle.std.specs.Prelude.{◌≡◌, None, IsSome, IfOk, OnOk};
+ghost use Rattle.std.specs.Prelude.{◌≡◌, ◌∷◌, ◌++◌, [], None, Some, IsSome, IfOk, OnOk};
 ghost use Rattle.swan_model.specs.declared.body.Ask.TheVariants as ask;
 ghost use Rattle.swan_model.specs.QueueFollows.{next_queue_deed};
 ghost use Rattle.swan_model.specs.QueueState.{after_finish};
@@ -8,7 +8,7 @@ ghost use Rattle.pop_order.specs.Frames.{HasNoChild, without};
 ghost use Rattle.queues.specs.Asks.{IsOnTurn, MayJoin, OnNext};
 ghost use Rattle.swan_model.specs.Readings.{gone_on};
 ghost use Rattle.task_frames.specs.Cores.{HasIt, MayBegin, asking};
-ghost use Rattle.task_frames.specs.Records.{IsOnlyLive, live_at};
+ghost use Rattle.task_frames.specs.Records.{HasOneFailed, HasRoomForOne, IsOnlyLive, LiveFrame, live_at};
 ghost use Rattle.task_frames.specs.Resumes.{EndsTaskByFault, IsStep, MayNotUse};
 
 use crate::{FrameAtCore, Kept, MidStep, Step};
@@ -50,11 +50,15 @@ impl<Q: Queues> Kept<Q> {
         if let Some(child) = self.live.oldest_child(number) {
             return Ok(Step::Waits(frame, WaitFor::Child(child)));
         }
-        self.faults.push(Fault {
-            path: frame.into_path(),
-            place: at,
-            kind,
-        })?;
+        let path = frame.into_path();
+        self.book(
+            number,
+            Fault {
+                path,
+                place: at,
+                kind,
+            },
+        )?;
         self.leave(number)?;
         Ok(Step::Ended)
     }
@@ -73,6 +77,19 @@ impl<Q: Queues> Kept<Q> {
     {
         let at = mid.at();
         self.fault(mid.asks(ask), at, FaultKind::Privilege)
+    }
+
+    /// Books a fault of a live frame, which ends it: the frame above it, where it has one, has one more failed child. Err is want of
+    /// memory, and changes nothing. `O(log n)`, amortised.
+    pub fn book(&mut self, number: u64, fault: Fault) -> Result<(), NoMemory>
+        requires live { IsSome (live_at self.old.live number) }
+        requires room { (frame : LiveFrame) → live_at self.old.live number ≡ Some frame → HasRoomForOne self.old.live frame.parent }
+        ensures live { OnOk result ((frame : LiveFrame) → live_at self.old.live number ≡ Some frame → HasOneFailed self.old.live self.new.live frame.parent) }
+        ensures booked { OnOk result (self.new ≡ record self.old { live = self.new.live; faults = self.old.faults ++ fault ∷ [] }) }
+    {
+        self.faults.push(fault)?;
+        self.live.fail(number);
+        Ok(())
     }
 
     /// Gives up what is kept of a frame that has taken its last step: first its versions get their values, then the queues

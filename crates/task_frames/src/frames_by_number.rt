@@ -1,7 +1,7 @@
 // The live frames by their numbers.
 ghost use Rattle.std.specs.Prelude.{◌≡◌, None, Some, [], IsSome, OnOk, OnErr};
 ghost use Rattle.std.specs.Option.{option_copied, option_map};
-ghost use Rattle.task_frames.specs.Records.{IsOnlyLive, come_at, holding_too, live_at};
+ghost use Rattle.task_frames.specs.Records.{HasOneFailed, HasRoomForOne, IsOnlyLive, LiveFrame as TheLiveFrame, come_at, holding_too, live_at, synced_at};
 
 use crate::Holding;
 use crate::live_record::LiveFrame;
@@ -105,6 +105,38 @@ impl FramesByNumber {
         }
     }
 
+    /// Notes that one more child of a frame failed. `O(log n)`, and `O(1)` for the newest one; it takes no memory.
+    pub fn fail_child(&mut self, number: u64)
+        requires room { HasRoomForOne self.old (Some number) }
+        ensures { HasOneFailed self.old self.new (Some number) }
+    {
+        if number == self.newest_number {
+            match &mut self.newest {
+                Some(frame) => frame.fail_child(),
+                None => unreachable!(),
+            }
+        } else {
+            fail_child(&mut self.older, number);
+        }
+    }
+
+    /// Notes that a frame takes a Sync, with so many steps done then, and answers how many of its children failed since the last
+    /// one. `O(log n)`, and `O(1)` for the newest one; it takes no memory.
+    pub fn sync(&mut self, number: u64, done: u64) -> u64
+        requires live { IsSome (live_at self.old number) }
+        ensures failed { (frame : TheLiveFrame) → live_at self.old number ≡ Some frame → result ≡ frame.failed }
+        ensures synced { IsOnlyLive self.old self.new number (option_map (synced_at done) (live_at self.old number)) }
+    {
+        if number == self.newest_number {
+            match &mut self.newest {
+                Some(frame) => frame.sync(done),
+                None => unreachable!(),
+            }
+        } else {
+            sync(&mut self.older, number, done)
+        }
+    }
+
     /// Takes a frame out; None comes exactly where there is none, and nothing is changed then. `O(log n)`, and `O(1)` for the
     /// newest one; it takes no memory.
     pub fn leave(&mut self, number: u64) -> Option<LiveFrame>
@@ -146,6 +178,29 @@ fn hold(older: &mut BTreeMap<u64, LiveFrame>, number: u64, holding: Holding) -> 
 {
     match older.get_mut(&number) {
         Some(frame) => frame.hold(holding),
+        None => unreachable!(),
+    }
+}
+
+/// Notes in the older frames that one more child of one failed. `O(log n)`.
+fn fail_child(older: &mut BTreeMap<u64, LiveFrame>, number: u64)
+    requires room { HasRoomForOne older.old.entries (Some number) }
+    ensures { HasOneFailed older.old.entries older.new.entries (Some number) }
+{
+    match older.get_mut(&number) {
+        Some(frame) => frame.fail_child(),
+        None => unreachable!(),
+    }
+}
+
+/// Notes in the older frames that one takes a Sync, with so many steps done then. `O(log n)`.
+fn sync(older: &mut BTreeMap<u64, LiveFrame>, number: u64, done: u64) -> u64
+    requires live { IsSome (live_at older.old.entries number) }
+    ensures failed { (frame : TheLiveFrame) → live_at older.old.entries number ≡ Some frame → result ≡ frame.failed }
+    ensures synced { IsOnlyLive older.old.entries older.new.entries number (option_map (synced_at done) (live_at older.old.entries number)) }
+{
+    match older.get_mut(&number) {
+        Some(frame) => frame.sync(done),
         None => unreachable!(),
     }
 }

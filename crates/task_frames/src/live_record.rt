@@ -1,7 +1,8 @@
 // The record of live frames.
-ghost use Rattle.std.specs.Prelude.{◌≡◌, ℕ, Some, None, [], IsSome, OnOk, OnErr, IfSome, IfNone};
+ghost use Rattle.std.specs.Prelude.{◌≡◌, ℕ, ◌<◌, Some, None, [], IsSome, OnOk, OnErr, IfSome, IfNone};
 ghost use Rattle.std.specs.Option.{option_map};
-ghost use Rattle.task_frames.specs.Records.{HasChildren, IsLiveChild, IsOldestChild, IsOnlyLive, LiveFrame as TheLiveFrame, come_at, come_to, holding_too, live_at};
+ghost use Rattle.swan_model.specs.Values.{COUNT_MOST};
+ghost use Rattle.task_frames.specs.Records.{HasChildren, HasOneFailed, HasRoomForOne, IsLiveChild, IsOldestChild, IsOnlyLive, LiveFrame as TheLiveFrame, come_at, come_to, holding_too, live_at, synced_at, with_failed_child};
 
 use crate::Holding;
 use crate::frames_by_number::FramesByNumber;
@@ -21,6 +22,8 @@ pub struct LiveFrame {
     pub done: u64,
     /// What it held, by place.
     pub holdings: Vec<Holding>,
+    /// How many of its children ended by a fault since its last Sync, or since it began.
+    pub failed: u64,
 }
 
 impl Model for LiveFrame {
@@ -33,6 +36,7 @@ impl Model for LiveFrame {
       path = frame.path;
       done = frame.done;
       holdings = frame.holdings.items;
+      failed = frame.failed;
     } };
 }
 
@@ -51,6 +55,26 @@ impl LiveFrame {
     {
         self.holdings.push(holding)?;
         Ok(())
+    }
+
+    /// Notes that one more of its children failed. `O(1)`.
+    pub(crate) fn fail_child(&mut self)
+        requires few { self.old.failed < COUNT_MOST }
+        ensures { self.new ≡ with_failed_child self.old }
+    {
+        self.failed += 1;
+    }
+
+    /// Notes that its task takes a Sync, with so many steps done then. It answers how many of its children failed since the
+    /// last one. `O(1)`.
+    pub(crate) fn sync(&mut self, done: u64) -> u64
+        ensures failed { result ≡ self.old.failed }
+        ensures synced { self.new ≡ synced_at done self.old }
+    {
+        let failed = self.failed;
+        self.done = done;
+        self.failed = 0;
+        failed
     }
 }
 
@@ -157,6 +181,31 @@ impl LiveRecord {
         ensures { OnOk result (IsOnlyLive self.old self.new number (option_map (holding_too holding) (live_at self.old number))) }
     {
         self.frames.hold(number, holding)
+    }
+
+    /// Notes that a frame ends by a fault: the one above it, where it has one, has one more failed child. `O(log n)`; it takes no
+    /// memory.
+    pub fn fail(&mut self, number: u64)
+        requires live { IsSome (live_at self.old number) }
+        requires room { (frame : TheLiveFrame) → live_at self.old number ≡ Some frame → HasRoomForOne self.old frame.parent }
+        ensures { (frame : TheLiveFrame) → live_at self.old number ≡ Some frame → HasOneFailed self.old self.new frame.parent }
+    {
+        let Some(frame) = self.frames.get(number) else {
+            unreachable!()
+        };
+        if let Some(parent) = frame.parent {
+            self.frames.fail_child(parent);
+        }
+    }
+
+    /// Notes that a frame takes a Sync, with so many steps done then. It answers how many of its children failed since the last
+    /// one. `O(log n)`; it takes no memory.
+    pub fn sync(&mut self, number: u64, done: u64) -> u64
+        requires live { IsSome (live_at self.old number) }
+        ensures failed { (frame : TheLiveFrame) → live_at self.old number ≡ Some frame → result ≡ frame.failed }
+        ensures synced { IsOnlyLive self.old self.new number (option_map (synced_at done) (live_at self.old number)) }
+    {
+        self.frames.sync(number, done)
     }
 
     /// Takes a frame out. `O(log n)`; it takes no memory.

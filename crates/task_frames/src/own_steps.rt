@@ -21,7 +21,8 @@ impl<Q: Queues> Kept<Q> {
         Step::Runs(frame)
     }
 
-    /// The wait for all children, which isn't taken while one is active. `O(log n)`; it takes no memory.
+    /// The wait for all children, which isn't taken while one is active. The frame is told how many of them ended by a fault since
+    /// its last one. `O(log n)`; it takes no memory.
     pub fn sync<B: Body>(&mut self, mid: MidStep<B>) -> Step<B>
         requires has { HasIt B.Body self.old (asking mid ask.Sync) }
         requires begun { MayBegin self.old mid.task.number }
@@ -33,8 +34,8 @@ impl<Q: Queues> Kept<Q> {
             return Step::Waits(mid.asks(Ask::Sync), WaitFor::Child(child));
         }
         self.queues.sync(number);
-        self.note_step(number, mid.done());
-        let frame = mid.is_told(Answer::Nothing);
+        let failed = self.note_sync(number, mid.done());
+        let frame = mid.is_told(Answer::Caught(failed));
         Step::Runs(frame)
     }
 }

@@ -109,11 +109,15 @@ impl<Q: Queues> Kept<Q> {
             Popped::Item(_) => unreachable!(),
             Popped::Empty => {
                 let at = mid.at();
-                self.faults.push(Fault {
-                    path: mid.into_path(),
-                    place: at,
-                    kind: FaultKind::PopEmpty,
-                })?;
+                let path = mid.into_path();
+                self.book(
+                    number,
+                    Fault {
+                        path,
+                        place: at,
+                        kind: FaultKind::PopEmpty,
+                    },
+                )?;
                 self.leave(number)?;
                 Ok(Step::Ended)
             }

@@ -266,7 +266,7 @@ impl<Q: Queues> Kept<Q> {
         // what is noted of the frames, and what else is kept
         ensures parent { OnOk result (live_at self.new.live parent ≡ option_map (come_to (done + 1)) (live_at self.old.live parent)) }
         ensures child { OnOk result (live_at self.new.live self.old.frames
-            ≡ Some (record { parent = Some parent; path = path.now; done = 0; holdings = held.now.items })) }
+            ≡ Some (record { parent = Some parent; path = path.now; done = 0; holdings = held.now.items; failed = 0 })) }
         ensures others { OnOk result ((other : ℕ) → other ≢ parent → other ≢ self.old.frames → live_at self.new.live other ≡ live_at self.old.live other) }
         ensures same { OnOk result (self.new ≡ record self.old {
           reading = record self.old.reading {
@@ -282,6 +282,7 @@ impl<Q: Queues> Kept<Q> {
             path: path.copy()?,
             done: 0,
             holdings: held.clone()?,
+            failed: 0,
         };
         self.live.come_to(parent, done + 1);
         self.live.enter(parent, child, frame)?;
