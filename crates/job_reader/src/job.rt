@@ -10,8 +10,8 @@ pub(crate) const JOB_LINES_MOST: usize = 20_000;
 
 /// A job: the lines of a text that has no fault. The line with number n stands at index n - 1. It keeps
 /// all that its text needs to be read back: each line has its shape, with names, notes and literals
-/// that may stand in a text; each stands where it may; no line, input or block is one too many; and
-/// no task is open at the end. Contracts see it as the list of its lines.
+/// that may stand in a text; each stands where it may in a job of its edition; no line, input or block
+/// is one too many; and no task is open at the end. Contracts see it as the list of its lines.
 #[derive(Drop)]
 pub struct Job {
     lines: Vec<Line>,

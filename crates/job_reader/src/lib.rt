@@ -5,6 +5,9 @@
 //! faulty line and what is wrong with it. The writer prints any job in one form, which reads back as
 //! the same job.
 //!
+//! The first line says of which edition of the language a job is. The second edition has all lines
+//! of the first, and one statement more.
+//!
 //! What a text means stands in `specs/`, which is meant to be read in the order of `specs/Lib.antt`, without
 //! any code beside it. What lines, tokens and literals are is said by relations over their pieces. The job of
 //! a text and its first fault are functions of the lines and tokens that are found byte by byte, and the laws
