@@ -10,8 +10,8 @@ ghost use Rattle.queues.specs.Ends.{AreOtherCounts, EndCounts, HasPopped, HasPus
 
 use swan_model::Value;
 
-/// The ends that a running frame has with it. It pushes, pops and tests by them without asking the queues. A test by ends is a
-/// deed only where it finds an item: no end tells that a queue is empty.
+/// The ends that a running frame has with it. It pushes, pops and tests by them without asking the
+/// queues. A test by ends is a deed only where it finds an item: no end tells that a queue is empty.
 pub trait LocalEnds: Send + Drop {
     /// The script of the run's name, where it has one.
     ghost name: { Self → Option Script };
@@ -22,9 +22,9 @@ pub trait LocalEnds: Send + Drop {
     /// What they are.
     ghost ends: { Self → LentEnds };
 
-    /// What each of them shows of itself in numbers, by its queue and whether it pushes: how many items it has pushed
-    /// or popped, how many tests have found one, how many its ring takes, how often it has looked at the other side's
-    /// count, for a deed and for none, and what it found last.
+    /// What each of them shows of itself in numbers, by its queue and whether it pushes: how many items
+    /// it has pushed or popped, how many tests have found one, how many its ring takes, how often it has
+    /// looked at the other side's count, for a deed and for none, and what it found last.
     ghost counts: { Self → ℕ → Bool → EndCounts };
 
     /// Pushes to a queue, where there is an end for that. Err hands the value back and does nothing: it
@@ -70,9 +70,10 @@ pub trait LocalEnds: Send + Drop {
         ensures others { AreOtherCounts (counts self.old) (counts self.new) queue false }
         ensures same { IsSameRun name run self.old self.new };
 
-    /// Tests whether a queue has an item, where there is an end to pop from it. True is the test: in serial order the
-    /// queue has one at this step, and none is taken. False is no deed and doesn't say that the queue is empty: it comes
-    /// only where no consumer of that queue is there, or its ring was empty at a step of this call.
+    /// Tests whether a queue has an item, where there is an end to pop from it. True is the frame's deed:
+    /// in serial order the queue has an item at this step. None is taken. False is no deed and doesn't say
+    /// that the queue is empty: it comes only where no consumer of that queue is there, or its ring was
+    /// empty at a step of this call.
     fn test(&mut self, queue: u32) -> bool
         // what the frame may do
         requires room { (ends self.old).deeds < COUNT_MOST }
@@ -80,7 +81,7 @@ pub trait LocalEnds: Send + Drop {
         // where there is a script
         requires next { ForSome (name self.old) (λ s. IsNextTest s (ends self.old) queue) }
 
-        // what is answered, and why it isn't told
+        // what is answered, and why it can't be told
         ensures holds { OnTrue result (ForSome (name self.old) (λ s. IsLawful s → HoldsNext s (ends self.old))) }
         ensures by_end { OnTrue result (has_end (ends self.old) queue false ≡ true) }
         ensures tested { OnTrue result (HasTested (counts self.old queue false) (counts self.new queue false)) }
@@ -92,9 +93,9 @@ pub trait LocalEnds: Send + Drop {
         ensures others { AreOtherCounts (counts self.old) (counts self.new) queue false }
         ensures same { IsSameRun name run self.old self.new };
 
-    /// Whether the consumer of a queue finds an item now, for whoever has the frame, whatever its next deed is. It is no
-    /// deed. True comes only where that end is there, and found one at a step of this call; false only where it isn't
-    /// there, or its ring was empty at a step of this call.
+    /// Whether the consumer of a queue finds an item now, for whoever has the frame, whatever its next
+    /// deed is. It is no deed. True comes only where that end is there, and found one at a step of this
+    /// call; false only where it isn't there, or its ring was empty at a step of this call.
     fn finds(&mut self, queue: u32) -> bool
         // what is answered, and by which look
         ensures by_end { OnTrue result (has_end (ends self.old) queue false ≡ true) }

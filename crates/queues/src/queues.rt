@@ -72,8 +72,9 @@ pub trait Queues: Send + Drop {
         ensures ok { OnOk result (OnActive (state self.old) frame (λ f. state self.new ≡ after_create (state self.old) f)) }
         ensures same { IsSameRun name run self.old self.new };
 
-    /// Whether a child may begin to pop: Ok exactly where no older sibling is active that pops a queue which the child
-    /// pops, and else Err with the oldest of those. It is Ok for a frame that isn't active. It takes no memory.
+    /// Whether a child may begin to pop: Ok exactly where no older sibling is active that pops a queue
+    /// which the child pops, and else Err with the oldest of those. It is Ok for a frame that isn't active.
+    /// It takes no memory.
     fn may_start(&self, child: u64) -> Result<(), u64>
         // who has its turn, and whom another one waits for
         ensures ok { OnOk result ((older : ℕ) → ¬ IsBlockedBy (state self.now) child older) }

@@ -47,11 +47,12 @@ pub fn turns_stay()
     ensures take_rest { OnTurns (λ state turns. (queue : ℕ) → AreTurns (after_take_rest state queue) turns) }
 {}
 
-/// The law that turns which are those of a state tell what its frames are. Where no frame keeps another one from starting,
-/// that one has its turn; and who does is active, and comes first in serial order. By the turns a frame keeps another one
-/// from starting exactly where it does so by the state: it is an older sibling that pops what that one pops. Who comes first by the turns comes
-/// first by its path, and, of two frames that may use one queue, the other way round. So `certain` answers whom a wait
-/// would name, or that there is none to wait for; whether the next item is ripe all the same, turns don't tell.
+/// The law that turns which are those of a state tell what its frames are. Where no frame keeps another one
+/// from starting, that one has its turn; and who does is active, and comes first in serial order. By the turns
+/// a frame keeps another one from starting exactly where it does so by the state, as an older sibling that pops
+/// what that one pops. Who comes first by the turns comes first by its path, and, of two frames that may use
+/// one queue, the other way round. So `certain` answers whom a wait would name, or that there is none to wait
+/// for; whether the next item is ripe all the same, turns don't tell.
 pub fn turns_tell_who_may_pop()
     // who may start, and who keeps another one from it
     ensures start { OnTreeTurns (λ state turns. (n : ℕ) (frame : ActiveFrame) → active state n ≡ Some frame
