@@ -30,7 +30,7 @@ makes_where_equal state other number is may = ap (λ s. may_make s number) is �
 -- the ends that such a frame was just lent have room for one more deed
 pub deeds_left : (state : QueueState) (number : ℕ) (ends : LentEnds) → may_make state number ≡ true
     → ((frame : ActiveFrame) → active state number ≡ Some frame
-      → ends ≡ record { frame = number; path = frame.path; before = frame.deeds; deeds = frame.deeds; list = ends.list })
+    → ends ≡ record { frame = number; path = frame.path; before = frame.deeds; deeds = frame.deeds; list = ends.list })
     → ends.deeds < COUNT_MOST
 deeds_left state number ends may are =
     let is = made_by_room state number may in

@@ -47,8 +47,8 @@ fn lend_both<Q: Queues>(queues: &mut Q, one: u64, two: u64) -> Result<(), Fail>
     give_back(queues, one, of_one, two, of_two)
 }
 
-/// Makes the calls of a table, and lends a frame its ends: a look by them and a test by them have to find an item of a
-/// queue, or both of them none, and the frame has to get the ends back.
+/// Makes the calls of a table, and lends a frame its ends: a look by them and a test by them have to find an
+/// item of a queue, or both of them none, and the frame has to get the ends back.
 #[tactic(auto, using(crate::proofs::Lending::makes_where_equal))]
 pub fn finds_by_ends<Q: Queues>(
     queues: &mut Q,
@@ -72,15 +72,10 @@ pub fn finds_by_ends<Q: Queues>(
     }
 }
 
-/// Lends a frame its ends: a look by them and a test by them have to find an item of a queue, or both of them none, and
-/// the frame has to get the ends back.
+/// Lends a frame its ends: a look by them and a test by them have to find an item of a queue, or both of them
+/// none, and the frame has to get the ends back.
 #[tactic(auto, using(crate::proofs::Allowing::lent_by_test, crate::proofs::Lending::deeds_left))]
-fn finds_by_lent<Q: Queues>(
-    queues: &mut Q,
-    frame: u64,
-    queue: u32,
-    some: bool,
-) -> Result<(), Fail>
+fn finds_by_lent<Q: Queues>(queues: &mut Q, frame: u64, queue: u32, some: bool) -> Result<(), Fail>
     requires free { Q.name queues.old ≡ None }
     requires lends { may_make (Q.state queues.old) frame ≡ true }
 {
