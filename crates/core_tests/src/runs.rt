@@ -476,6 +476,34 @@ pub fn workers_leave_the_same<T: Threads + Wait + Clock + Sync>(
     Ok(())
 }
 
+/// A run of the row's plan by so many workers leaves what the row says, and what the elision leaves.
+pub fn leaves_by_workers<T: Threads + Wait + Clock + Sync>(
+    rt: &T,
+    alloc: Global,
+    row: &Row<'_>,
+    workers: u32,
+) -> Result<(), Fail> {
+    let tasks = Tasks {
+        name: "a row",
+        tasks: row.tasks,
+        fuel: row.fuel,
+    };
+    let left = left_by_workers(rt, alloc, &tasks, workers)?;
+    is_said_and_elided(alloc, row, &left)
+}
+
+/// Runs of the row's plan by several workers do.
+pub fn workers_leave<T: Threads + Wait + Clock + Sync>(
+    rt: &T,
+    alloc: Global,
+    row: &Row<'_>,
+) -> Result<(), Fail> {
+    for workers in [1, 2, 3, 4, 64] {
+        leaves_by_workers(rt, alloc, row, workers)?;
+    }
+    Ok(())
+}
+
 /// A run that came to this was stopped by want of memory.
 pub fn is_stopped(came: Result<RunOutcome, NoMemory>) -> Result<(), Fail> {
     match came {

@@ -10,11 +10,10 @@ use Rattle.std.specs.List.{sum}
 use Rattle.std.specs.Prelude.{slice_get, slice_range}
 use Rattle.swan_model.specs.declared.value.Value.{Value}
 use Rattle.swan_model.specs.declared.value.Value.TheVariants.{Bytes}
-use Rattle.swan_model.specs.declared.record.TheConstants.{RECORD_MOST}
 use Rattle.line_blocks.specs.LineBlocks.{byte_count}
 use Rattle.index_pipeline.specs.Batches.{cuts, has_room}
 use Rattle.index_pipeline.specs.Words.{word_of}
-use Rattle.index_pipeline.specs.declared.batch.TheConstants.{NUMBER_MOST}
+use Rattle.index_pipeline.specs.declared.batch.TheConstants.{BATCH_MOST, NUMBER_MOST}
 use Rattle.index_pipeline.specs.declared.word.TheConstants.{WORD_MOST}
 use Rattle.swan_model.proofs.Lists.{drop_next, past_none}
 
@@ -74,29 +73,29 @@ bytes_written (len ∷ lens) bytes within =
     omega (arith, length-take-le len bytes (omega (arith, within, sum-cons len lens)), bytes_written lens (drop len bytes) rest, sum-cons len lens)
 
 pub room_after : (lens bytes : List ℕ) (written word_len : ℕ) → written ≡ sum lens → written ≤ length bytes → (lens ≡ [] → ⊥)
-    → has_room (cuts lens bytes) word_len ≡ nat_le (written + word_len + NUMBER_MOST) RECORD_MOST
+    → has_room (cuts lens bytes) word_len ≡ nat_le (written + word_len + NUMBER_MOST) BATCH_MOST
 room_after [] bytes written word_len all within some = absurd (some refl)
 room_after (len ∷ lens) bytes written word_len all within some =
-    ap (λ n. nat_le (n + word_len + NUMBER_MOST) RECORD_MOST) (bytes_written (len ∷ lens) bytes (omega (arith, all, within)) ∙ sym all)
+    ap (λ n. nat_le (n + word_len + NUMBER_MOST) BATCH_MOST) (bytes_written (len ∷ lens) bytes (omega (arith, all, within)) ∙ sym all)
 
--- all of them are one record, unless there is only one
+-- all of them are within the bound, unless there is only one
 still_fits : (lens bytes now more : List ℕ) (written len word_len : ℕ) → written ≡ sum lens → written ≤ length bytes → has_room (cuts lens bytes) word_len ≡ true
-    → now ≡ take written bytes ++ more → length more ≤ word_len + NUMBER_MOST → (length (lens ++ len ∷ []) ≤ 1) ⊎ (length now ≤ RECORD_MOST)
+    → now ≡ take written bytes ++ more → length more ≤ word_len + NUMBER_MOST → (length (lens ++ len ∷ []) ≤ 1) ⊎ (length now ≤ BATCH_MOST)
 still_fits [] bytes now more written len word_len all within room is few = inl (omega arith)
 still_fits (first ∷ lens) bytes now more written len word_len all within room is few =
-    let fits : nat_le (written + word_len + NUMBER_MOST) RECORD_MOST ≡ true = sym (room_after (first ∷ lens) bytes written word_len all within (λ none. absurd (cc))) ∙ room in
-    let below : written + word_len + NUMBER_MOST ≤ RECORD_MOST = search (rules, tests) in
+    let fits : nat_le (written + word_len + NUMBER_MOST) BATCH_MOST ≡ true = sym (room_after (first ∷ lens) bytes written word_len all within (λ none. absurd (cc))) ∙ room in
+    let below : written + word_len + NUMBER_MOST ≤ BATCH_MOST = search (rules, tests) in
     inr (omega (arith, below, few, ap length is, length-append (take written bytes) more, length-take-le written bytes within))
 
 pub still_batch : (lens bytes now more items : List ℕ) (written len word_len count : ℕ) → written ≡ sum lens → written ≤ length bytes → has_room (cuts lens bytes) word_len ≡ true
     → now ≡ take written bytes ++ more → len ≡ length now - written → items ≡ lens ++ len ∷ [] → count ≡ length now → length more ≤ word_len + NUMBER_MOST
-    → (count ≡ sum items) × (count ≤ length now) × ((length items ≤ 1) ⊎ (count ≤ RECORD_MOST))
+    → (count ≡ sum items) × (count ≤ length now) × ((length items ≤ 1) ⊎ (count ≤ BATCH_MOST))
 still_batch lens bytes now more items written len word_len count all within room is len_is items_are count_is few =
     let front = take written bytes in
     let fits = still_fits lens bytes now more written len word_len all within room is few in (
       omega (arith, count_is, all, len_is, ap length is, length-append front more, length-take-le written bytes within, sum_by-append (λ x. x) lens (len ∷ []), ap sum items_are),
       omega (arith, count_is),
-      subst (λ ls. (length ls ≤ 1) ⊎ (count ≤ RECORD_MOST)) (sym items_are) (subst (λ n. (length (lens ++ len ∷ []) ≤ 1) ⊎ (n ≤ RECORD_MOST)) (sym count_is) fits),
+      subst (λ ls. (length ls ≤ 1) ⊎ (count ≤ BATCH_MOST)) (sym items_are) (subst (λ n. (length (lens ++ len ∷ []) ≤ 1) ⊎ (n ≤ BATCH_MOST)) (sym count_is) fits),
     )
 
 pub number_few : (word : List ℕ) (number : ℕ) → number < 2 ^ 64 → length (word ++ 32 ∷ decimal number) ≤ length word + NUMBER_MOST

@@ -63,7 +63,7 @@ module _ (body : IndexBody) where
     holds = refl;
     lawful = refl;
     whole = λ kid xs ws.
-        pushes_all words_pusher (block_records block) ws (kid ∷ []) (local.Words (block_records block)) answer.Start (2 * byte_count block.lines + 2) 0 2 ((record { mode = Push; number = 2 }) ∷ []) (input_and_parts xs ws)
+        pushes_all words_pusher (block_records block) ws (kid ∷ []) (local.Words (block_records block)) answer.Start (2 * byte_count block.lines + 2) 0 0 2 ((record { mode = Push; number = 2 }) ∷ []) (input_and_parts xs ws)
         refl (omega (arith, few_records block.number block.lines)) refl refl;
   }
 
@@ -162,16 +162,16 @@ module _ (body : IndexBody) where
   collector_whole n ws enough =
       let pairs = fold kept_with [] ws in
       tests_empty ghosts (omega arith) refl refl refl
-      (reads_alone (collecting n) (λ got x. refl) ws [] [] (body.collector_fuel - 1) 0 (parts_and_output [] (collected ws)) [] (omega arith)
-      (λ left kids same.
-      subst (λ got. RunsWhole ghosts body (reading (collecting n) (local.Collects (reader.Tested got)) (answer.Flag true) left kids) (parts_and_output [] []) (parts_and_output [] (collected ws)) []) (sym (got_all n ws []))
-      (pushes_all pairs_pusher (collected ws) [] (n ∷ []) (local.Collects (reader.Tested pairs)) (answer.Flag true) left kids 1 (collecting n).holdings (parts_and_output [] []) refl
+      (reads_alone (collecting n) (λ got x. refl) ws [] [] (body.collector_fuel - 1) 0 0 (parts_and_output [] (collected ws)) [] (omega arith)
+      (λ left kids failed same.
+      subst (λ got. RunsWhole ghosts body (reading (collecting n) (local.Collects (reader.Tested got)) (answer.Flag true) left kids failed) (parts_and_output [] []) (parts_and_output [] (collected ws)) []) (sym (got_all n ws []))
+      (pushes_all pairs_pusher (collected ws) [] (n ∷ []) (local.Collects (reader.Tested pairs)) (answer.Flag true) left kids failed 1 (collecting n).holdings (parts_and_output [] []) refl
       (omega (arith, same, length-map pairs record_of, few_kept ws [])) refl refl)))
 
   -- ---- the root
 
   indexed : (xs : List Value) (fuel : ℕ) → 3 * byte_count xs + 3 ≤ body.collector_fuel → 4 + 5 * length xs + 2 * byte_count xs + body.collector_fuel ≤ fuel
-      → RunsWhole ghosts body (record { path = []; local = local.Begins; answer = answer.Start; fuel = fuel; holdings = (record { mode = Pop; number = 0 }) ∷ (record { mode = Push; number = 1 }) ∷ []; children = 0 })
+      → RunsWhole ghosts body (record { path = []; local = local.Begins; answer = answer.Start; fuel = fuel; holdings = (record { mode = Pop; number = 0 }) ∷ (record { mode = Push; number = 1 }) ∷ []; children = 0; failed = 0 })
       (record { objects = []; queues = xs ∷ [] ∷ [] }) (parts_and_output [] (collected (records_from 1 xs))) []
   indexed xs fuel enough paid =
       let children = blocks task first xs in
@@ -179,12 +179,12 @@ module _ (body : IndexBody) where
       makes_queue ghosts (omega (arith, paid)) refl
       (tests_empty ghosts (omega (arith, paid)) refl refl refl
       (ends_so ghosts refl (ap (λ fs. fs ++ []) (no_faults children 0))
-      (runs_blocks task xs first [] (fuel - 1 - 1) 0 left_of [] (omega (arith, paid, costs_are xs))
-      (λ left same local told is.
+      (runs_blocks task xs first [] (fuel - 1 - 1) 0 0 left_of [] (omega (arith, paid, costs_are xs))
+      (λ left same local told failed is.
       spawns_child ghosts (omega (arith, same, paid, costs_are xs)) (is (left - 1)) refl refl (omega arith) (omega (arith, same, paid, costs_are xs))
       (subst (λ ws. RunsWhole ghosts body (begun ((0 + length children) ∷ []) (collector body) (collecting (0 + length children)).holdings) (parts_and_output ws []) left_of []) (sym (words_are xs))
       (collector_whole (0 + length children) (records_from 1 xs) (omega (arith, enough, few_records 1 xs))))
-      (finishes ghosts (omega (arith, same, paid, costs_are xs)) refl)))))
+      (λ last. finishes ghosts (omega (arith, same, paid, costs_are xs)) refl)))))
 
 outcome_of_index : (text : List ℕ) → length text ≤ TEXT_MOST → outcome ghosts (index_plan text) ≡ record { objects = []; queues = [] ∷ map record_of (set_of (pairs_from 1 (lines text))) ∷ []; faults = [] }
 outcome_of_index text few =

@@ -1,30 +1,33 @@
 // Records that share one buffer.
 ghost use Rattle.std.specs.Prelude.{◌≡◌, ◌+◌, ◌∷◌, ◌++◌, [], true, length, nat_le, slice_get, IfOk, OnOk, MatchOption};
-ghost use Rattle.swan_model.specs.declared.record.TheConstants.{RECORD_MOST};
 ghost use Rattle.index_pipeline.specs.Batches.{has_room};
 ghost use Rattle.index_pipeline.specs.Records.{record_of};
 ghost use Rattle.index_pipeline.specs.Words.{word_of};
-ghost use Rattle.index_pipeline.specs.declared.batch.TheConstants.{NUMBER_MOST};
+ghost use Rattle.index_pipeline.specs.declared.batch.TheConstants.{BATCH_MOST, NUMBER_MOST};
 ghost use Rattle.index_pipeline.specs.declared.word.TheConstants.{WORD_MOST};
 
 use crate::pair::write_number;
 use crate::word::write_word;
 use std::alloc::Global;
 use std::marker::Model;
-use swan_model::{NoMemory, RECORD_MOST, Record, Value};
+use swan_model::{NoMemory, Record, Value};
 
 /// The largest number of bytes that a record of the index has beside its word: a space, and a number of 64 bits in decimal.
 const NUMBER_MOST: usize = 21;
 
-/// Whether a word of so many bytes has room with its number after what is written, all in one record.
+/// The largest number of bytes of a batch of more than one record. Records may be longer, but a batch's buffer lives as long as
+/// one of its records does, so a larger one would be held for a word.
+const BATCH_MOST: usize = 65_535;
+
+/// Whether a word of so many bytes has room with its number after what is written, all in one batch.
 fn is_within(written: usize, word_len: usize) -> bool
-    ensures { result ≡ nat_le (written + word_len + NUMBER_MOST) RECORD_MOST }
+    ensures { result ≡ nat_le (written + word_len + NUMBER_MOST) BATCH_MOST }
 {
-    written.saturating_add(word_len) <= RECORD_MOST - NUMBER_MOST
+    written.saturating_add(word_len) <= BATCH_MOST - NUMBER_MOST
 }
 
-/// Records that are written one after the other into one buffer. Contracts see it as these records, in order. They are one
-/// record together, unless there is only one.
+/// Records that are written one after the other into one buffer. Contracts see it as these records, in order. They have at most
+/// `BATCH_MOST` bytes together, unless there is only one.
 #[derive(Drop)]
 pub struct BatchWriter {
     // the records' bytes, and then what was written of a record before memory ran out
@@ -38,15 +41,15 @@ pub struct BatchWriter {
 impl Model for BatchWriter {
     ghost use Rattle.std.specs.Prelude.{List, ◌≡◌, ◌≤◌, ◌⊎◌, length};
     ghost use Rattle.std.specs.List.{sum};
-    ghost use Rattle.swan_model.specs.declared.record.TheConstants.{RECORD_MOST};
     ghost use Rattle.swan_model.specs.declared.value.Value.{Value as TheValue};
     ghost use Rattle.index_pipeline.specs.Batches.{cuts};
+    ghost use Rattle.index_pipeline.specs.declared.batch.TheConstants.{BATCH_MOST};
 
     ghost Value = { List TheValue };
 
     ghost view = { λ writer. cuts writer.lens.items writer.bytes.items };
 
-    ghost invariant = { λ writer. (writer.written ≡ sum writer.lens.items) × (writer.written ≤ length writer.bytes.items) × ((length writer.lens.items ≤ 1) ⊎ (writer.written ≤ RECORD_MOST)) };
+    ghost invariant = { λ writer. (writer.written ≡ sum writer.lens.items) × (writer.written ≤ length writer.bytes.items) × ((length writer.lens.items ≤ 1) ⊎ (writer.written ≤ BATCH_MOST)) };
 }
 
 impl BatchWriter {
@@ -61,7 +64,7 @@ impl BatchWriter {
         }
     }
 
-    /// Whether the record of a word of so many bytes has room beside those that are there, all in one record. Where
+    /// Whether the record of a word of so many bytes has room beside those that are there, all in one batch. Where
     /// none is there it has. `O(1)`.
     pub fn has_room(&self, word_len: usize) -> bool
         ensures { result ≡ has_room self.now word_len }

@@ -9,7 +9,7 @@ ghost use Rattle.index_pipeline.specs.Indexed.{IsIndexed};
 ghost use Rattle.index_pipeline.specs.Members.{StandsOn};
 ghost use Rattle.index_pipeline.specs.Pairs.{Pair, pair_order};
 ghost use Rattle.index_pipeline.specs.Plans.{index_plan};
-ghost use Rattle.index_pipeline.specs.declared.batch.TheConstants.{NUMBER_MOST};
+ghost use Rattle.index_pipeline.specs.declared.batch.TheConstants.{BATCH_MOST, NUMBER_MOST};
 ghost use Rattle.index_pipeline.specs.declared.body.TheConstants.{WORDS};
 ghost use Rattle.index_pipeline.specs.declared.word.TheConstants.{WORD_MOST};
 
@@ -37,5 +37,6 @@ pub fn the_index_is_a_sorted_set()
 pub fn limits_of_the_index()
     ensures word { WORD_MOST ≡ 64 }
     ensures number { NUMBER_MOST ≡ 21 }
+    ensures batch { BATCH_MOST ≡ 65535 }
     ensures words { WORDS ≡ 2 }
 {}

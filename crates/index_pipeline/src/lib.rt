@@ -6,7 +6,7 @@
 //!
 //! The root reads the lines and gives them to block tasks by 64. A block task pushes the words of its lines, with
 //! their numbers, to a queue that the root has made. The collector pops them, keeps the set of pairs, and pushes
-//! the index.
+//! the index. Records that are pushed share buffers of at most 65,535 bytes, each of which lives as long as one of its records.
 //!
 //! Promised, and proved of each text of at most `TEXT_MOST` bytes: `index_plan` answers the plan of the
 //! definitions, or refuses the text as `lines_of` does; and the outcome of this plan has no line left, no fault,

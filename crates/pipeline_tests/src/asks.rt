@@ -3,7 +3,7 @@ use std::alloc::Global;
 use std::process::Abort;
 use swan_model::{Answer, Ask, Body, Plan, Value};
 
-/// An answer, by the first letter of its word: start, item, true, false or place. Any other one is nothing.
+/// An answer, by the first letter of its word: start, item, true, false, place or caught. Any other one is nothing.
 fn answer_of(word: &str) -> Answer {
     match word.as_bytes().first() {
         Some(b's') => Answer::Start,
@@ -11,6 +11,7 @@ fn answer_of(word: &str) -> Answer {
         Some(b't') => Answer::Flag(true),
         Some(b'f') => Answer::Flag(false),
         Some(b'p') => Answer::Place(2),
+        Some(b'c') => Answer::Caught(1),
         _ => Answer::Nothing,
     }
 }

@@ -4,9 +4,9 @@ use crate::texts::{add, counted, in_turn, plan_leaves, repeated};
 use std::alloc::Global;
 use std::marker::{Send, Sync};
 use std::process::Abort;
-use swan_model::{NoMemory, RECORD_MOST, Record};
+use swan_model::{NoMemory, Record};
 use swan_reducers::{
-    BlockFold, EndAnswer, JOIN_MOST, JoinReducer, LineAnswer, Reducer, SumReducer, fold_names,
+    BlockFold, EndAnswer, JoinReducer, LineAnswer, Reducer, SumReducer, fold_names,
 };
 
 /// Whether the fold of a text leaves this output, and this report of its faults.
@@ -164,15 +164,25 @@ fn a_block_of_bad_lines_adds_nothing(rt: HostRuntime) {
 #[test]
 fn a_line_is_joined_up_to_the_bound(rt: HostRuntime) {
     let alloc = rt.alloc();
-    let text = repeated(&rt, alloc, b"a", JOIN_MOST);
-    let out = in_turn(&rt, alloc, b"a", JOIN_MOST, b"\n", 1);
+    let text = repeated(&rt, alloc, b"a", 65_535);
+    let out = in_turn(&rt, alloc, b"a", 65_535, b"\n", 1);
     assert!(rt; leaves(&rt, alloc, JoinReducer, &text, &out, "faults 0\n"));
+}
+
+#[test]
+fn a_line_past_the_bound_is_too_many_bytes(rt: HostRuntime) {
+    let alloc = rt.alloc();
+    let faults = "faults 1\nfault /1 0 TooLong\n";
+    for bytes in [65_536, 1_048_576] {
+        let text = repeated(&rt, alloc, b"a", bytes);
+        assert!(rt; leaves(&rt, alloc, JoinReducer, &text, b"", faults), "at {bytes}");
+    }
 }
 
 #[test]
 fn joins_end_past_their_bound(rt: HostRuntime) {
     let alloc = rt.alloc();
-    let text = in_turn(&rt, alloc, b"a", JOIN_MOST, b"\nb", 1);
+    let text = in_turn(&rt, alloc, b"a", 65_535, b"\nb", 1);
     let faults = "faults 1\nfault /1 0 TooLong\n";
     assert!(rt; leaves(&rt, alloc, JoinReducer, &text, b"", faults));
 }
@@ -313,6 +323,7 @@ fn joins_of_blocks_end_past_the_bound(rt: HostRuntime) {
         (1_023, 63, true),
         (1_023, 64, false),
         (0, 65_535, true),
+        (0, 65_536, false),
         (1_024, 0, false),
         (1_024, 1, false),
     ] {
@@ -328,35 +339,49 @@ fn record_of(rt: &impl Abort, alloc: Global, bytes: &[u8]) -> Record {
     }
 }
 
-/// A record of so many bytes.
-fn long_record(rt: &impl Abort, alloc: Global, bytes: usize) -> Record {
-    let text = repeated(rt, alloc, b"a", bytes);
-    record_of(rt, alloc, &text)
-}
-
-/// Whether a record of so many bytes is the part of a sum, and whether that of a join.
-fn are_parts(rt: &impl Abort, alloc: Global, bytes: usize) -> (bool, bool) {
-    let record = long_record(rt, alloc, bytes);
-    (SumReducer.is_part(&record), JoinReducer.is_part(&record))
-}
-
-/// Asserts whether a record of so many bytes is the part of a sum. Each is that of a join.
-fn hold_is_part(rt: &impl Abort, alloc: Global, bytes: usize, is_sum: bool) {
-    let (of_sum, of_join) = are_parts(rt, alloc, bytes);
-    assert!(rt; of_sum == is_sum, "a sum at {bytes}");
-    assert!(rt; of_join, "a join at {bytes}");
+/// Asserts whether a record is a part of a sum, and whether it is one of a join.
+fn hold_is_part(rt: &impl Abort, alloc: Global, bytes: &[u8], of_sum: bool, of_join: bool) {
+    let record = record_of(rt, alloc, bytes);
+    let length = bytes.len();
+    assert!(rt; SumReducer.is_part(&record) == of_sum, "a sum of {length} bytes");
+    assert!(rt; JoinReducer.is_part(&record) == of_join, "a join of {length} bytes");
 }
 
 #[test]
 fn parts_are_told_from_other_records(rt: HostRuntime) {
-    for (bytes, is_sum) in [
-        (0, false),
-        (15, false),
-        (16, true),
-        (17, false),
-        (RECORD_MOST, false),
+    for (bytes, of_sum, of_join) in [
+        (b"".as_slice(), false, false),
+        (b"aaaaaaaaaaaaaaa", false, false),
+        (b"aaaaaaaaaaaaaaaa", true, false),
+        (b"aaaaaaaaaaaaaaaaa", false, false),
+        (b"\0", false, true),
+        (b"\0\x01", false, true),
+        (b"\0aaaaaaaaaaaaaaa", true, true),
+        (b"\x01", false, true),
+        (b"\x01\0", false, false),
+        (b"\x02", false, false),
+        (b"\n", false, false),
     ] {
-        hold_is_part(&rt, rt.alloc(), bytes, is_sum);
+        hold_is_part(&rt, rt.alloc(), bytes, of_sum, of_join);
+    }
+}
+
+/// Asserts whether a byte and then so many others are a part of a join. They are none of a sum.
+fn hold_is_long_part(rt: &impl Abort, alloc: Global, first: &[u8], others: usize, of_join: bool) {
+    let bytes = in_turn(rt, alloc, first, 1, b"a", others);
+    hold_is_part(rt, alloc, &bytes, false, of_join);
+}
+
+#[test]
+fn parts_of_joins_have_at_most_65535_bytes_behind_the_first(rt: HostRuntime) {
+    for (first, others, of_join) in [
+        (b"\0".as_slice(), 65_535, true),
+        (b"\0", 65_536, false),
+        (b"\0", 1_048_575, false),
+        (b"\x01", 65_535, false),
+        (b"a", 65_535, false),
+    ] {
+        hold_is_long_part(&rt, rt.alloc(), first, others, of_join);
     }
 }
 
@@ -396,14 +421,36 @@ fn hold_part<R: Reducer>(
     assert!(rt; is_part(&found, part), "a line of {bytes}");
 }
 
-/// Asserts what part a line has of a sum, and that its bytes are that of a join.
+/// The part of a join of these bytes: the byte 0 and they.
+fn whole(rt: &impl Abort, alloc: Global, bytes: &[u8]) -> Vec<u8> {
+    in_turn(rt, alloc, b"\0", 1, bytes, 1)
+}
+
+/// The part of a join that is too long.
+const TOO_LONG: &[u8] = b"\x01";
+
+/// Asserts what part a line has of a sum, and that its bytes are joined.
 fn hold_part_of_both(rt: &impl Abort, alloc: Global, line: &[u8], sum: Option<&[u8]>) {
     hold_part(rt, alloc, &SumReducer, line, sum);
-    hold_part(rt, alloc, &JoinReducer, line, Some(line));
+    let join = whole(rt, alloc, line);
+    hold_part(rt, alloc, &JoinReducer, line, Some(join.as_slice()));
+}
+
+/// Asserts that a line of so many bytes is no number, and too long for a join.
+fn hold_long_line(rt: &impl Abort, alloc: Global, bytes: usize) {
+    let line = repeated(rt, alloc, b"1", bytes);
+    hold_part(rt, alloc, &SumReducer, &line, None);
+    hold_part(rt, alloc, &JoinReducer, &line, Some(TOO_LONG));
 }
 
 #[test]
-fn a_number_is_16_bytes_of_a_sum_and_its_text_of_a_join(rt: HostRuntime) {
+fn a_line_past_the_bound_is_the_byte_1(rt: HostRuntime) {
+    hold_long_line(&rt, rt.alloc(), 65_536);
+    hold_long_line(&rt, rt.alloc(), 1_048_576);
+}
+
+#[test]
+fn a_number_is_16_bytes_of_a_sum_and_its_text_joined(rt: HostRuntime) {
     for (line, sum) in [
         (
             b"5".as_slice(),
@@ -427,8 +474,8 @@ fn a_number_is_16_bytes_of_a_sum_and_its_text_of_a_join(rt: HostRuntime) {
 }
 
 #[test]
-fn a_bad_lines_bytes_are_the_part_of_a_join_alone(rt: HostRuntime) {
-    let longest = repeated(&rt, rt.alloc(), b"a", JOIN_MOST);
+fn a_bad_lines_bytes_are_joined_alone(rt: HostRuntime) {
+    let longest = repeated(&rt, rt.alloc(), b"a", 65_535);
     hold_part_of_both(&rt, rt.alloc(), &longest, None);
     for line in [
         b"9223372036854775808".as_slice(),
@@ -439,6 +486,8 @@ fn a_bad_lines_bytes_are_the_part_of_a_join_alone(rt: HostRuntime) {
         b"",
         b"a\xff",
         b"\n",
+        b"\x01",
+        b"\0",
     ] {
         hold_part_of_both(&rt, rt.alloc(), line, None);
     }
@@ -551,16 +600,16 @@ const MINUS_ONE: &[u8] = b"\xff\xff\xff\xff\xff\xff\xff\xff\xff\xff\xff\xff\xff\
 #[test]
 fn lines_one_by_one_keep_the_first_bad_line(rt: HostRuntime) {
     let alloc = rt.alloc();
-    hold_parts(&rt, alloc, &[b"", b"", b""], ZERO, Some(1), b"");
-    hold_parts(&rt, alloc, &[b"5", b"x", b"7"], TWELVE, Some(2), b"5x7");
-    hold_parts(&rt, alloc, &[b"x", b"12", b"y"], TWELVE, Some(1), b"x12y");
+    hold_parts(&rt, alloc, &[b"", b"", b""], ZERO, Some(1), b"\0");
+    hold_parts(&rt, alloc, &[b"5", b"x", b"7"], TWELVE, Some(2), b"\05x7");
+    hold_parts(&rt, alloc, &[b"x", b"12", b"y"], TWELVE, Some(1), b"\0x12y");
     hold_parts(
         &rt,
         alloc,
         &[b"0", b"12", b"12 "],
         TWELVE,
         Some(3),
-        b"01212 ",
+        b"\001212 ",
     );
     hold_parts(
         &rt,
@@ -568,20 +617,21 @@ fn lines_one_by_one_keep_the_first_bad_line(rt: HostRuntime) {
         &[b"-12", b"0", b"11"],
         MINUS_ONE,
         None,
-        b"-12011",
+        b"\0-12011",
     );
 }
 
 /// Asserts what lines one by one leave, of which one is the longest.
 fn hold_long_parts(rt: &impl Abort, alloc: Global, longest: &[u8]) {
-    hold_parts(rt, alloc, &[b"", longest, b""], ZERO, Some(1), longest);
+    let join = whole(rt, alloc, longest);
+    hold_parts(rt, alloc, &[b"", longest, b""], ZERO, Some(1), &join);
     hold_parts(
         rt,
         alloc,
         &[longest, b"b", b"-1"],
         MINUS_ONE,
         Some(1),
-        b"\n",
+        TOO_LONG,
     );
     hold_parts(
         rt,
@@ -589,17 +639,17 @@ fn hold_long_parts(rt: &impl Abort, alloc: Global, longest: &[u8]) {
         &[b"0", b"-1", longest],
         MINUS_ONE,
         Some(3),
-        b"\n",
+        TOO_LONG,
     );
 }
 
 #[test]
 fn lines_one_by_one_are_joined_up_to_the_bound(rt: HostRuntime) {
-    let longest = repeated(&rt, rt.alloc(), b"a", JOIN_MOST);
+    let longest = repeated(&rt, rt.alloc(), b"a", 65_535);
     hold_long_parts(&rt, rt.alloc(), &longest);
-    // a line feed alone stands for too many bytes
-    let lines = [b"-1".as_slice(), b"\n", b"0"];
-    hold_parts(&rt, rt.alloc(), &lines, MINUS_ONE, Some(2), b"\n");
+    // a line may be the byte that as a part means too many bytes
+    let lines = [b"-1".as_slice(), b"\x01", b"0"];
+    hold_parts(&rt, rt.alloc(), &lines, MINUS_ONE, Some(2), b"\0-1\x010");
 }
 
 /// Sums whose blocks are folded by the calls for one line, as the trait has it.

@@ -58,8 +58,8 @@ fn hold_refusal_of_two(
 fn a_text_past_the_limits_of_lines_is_refused(rt: HostRuntime) {
     let alloc = rt.alloc();
     let too_long = Some(LinesAnswer::TooLong { line: 3 });
-    hold_refusal_of_two(&rt, alloc, b"a\n", 2, b"x", 65_535, None);
-    hold_refusal_of_two(&rt, alloc, b"a\n", 2, b"x", 65_536, too_long);
+    hold_refusal_of_two(&rt, alloc, b"a\n", 2, b"x", 1_048_576, None);
+    hold_refusal_of_two(&rt, alloc, b"a\n", 2, b"x", 1_048_577, too_long);
     let too_many = Some(LinesAnswer::TooMany);
     hold_refusal_of_two(&rt, alloc, b"\n", 1_000_000, b"a", 0, None);
     hold_refusal_of_two(&rt, alloc, b"\n", 1_000_000, b"a", 1, too_many);

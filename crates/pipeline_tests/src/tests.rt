@@ -91,7 +91,7 @@ fn an_answer_that_isnt_whether_a_queue_is_empty_ends_a_reader(rt: HostRuntime) {
         &rt,
         rt.alloc(),
         &rows,
-        &["nothing", "start", "item", "place", "true"],
+        &["nothing", "start", "item", "place", "true", "caught"],
     );
 }
 
@@ -116,7 +116,7 @@ fn an_answer_that_is_no_item_ends_a_reader(rt: HostRuntime) {
         &rt,
         rt.alloc(),
         &rows,
-        &["nothing", "start", "place", "true", "false"],
+        &["nothing", "start", "place", "true", "false", "caught"],
     );
 }
 
@@ -149,6 +149,8 @@ fn where_no_answer_is_asked_for_each_will_do(rt: HostRuntime) {
         &rt,
         rt.alloc(),
         &rows,
-        &["nothing", "start", "item", "place", "true", "false"],
+        &[
+            "nothing", "start", "item", "place", "true", "false", "caught",
+        ],
     );
 }

@@ -68,7 +68,7 @@ module _ (body : RecordBody) where
 
   -- a line's task
   line_whole : (path : List ℕ) (number : ℕ) (x : Value) (t : Option Trouble) (xs out : List Value) → trouble body.width x ≡ t
-      → RunsWhole ghosts body (record { path = path; local = local.Line number x; answer = answer.Start; fuel = 2; holdings = pushing; children = 0 }) (shape xs out) (shape xs (out ++ pushed_of t (bytes_of x))) (booked_of path number t)
+      → RunsWhole ghosts body (record { path = path; local = local.Line number x; answer = answer.Start; fuel = 2; holdings = pushing; children = 0; failed = 0 }) (shape xs out) (shape xs (out ++ pushed_of t (bytes_of x))) (booked_of path number t)
   line_whole path number x None xs out is =
       pushes ghosts (omega arith) (ap {B = RecordLocal × Ask RecordLocal} (λ o. (local.Done number, converted o (bytes_of x))) is) refl refl (finishes ghosts (omega arith) refl)
   line_whole path number x (Some t) xs out is =
@@ -76,21 +76,21 @@ module _ (body : RecordBody) where
       (fails ghosts (omega arith) (ap {B = RecordLocal × Ask RecordLocal} (λ o. (local.Done number, converted o (bytes_of x))) is))
 
   -- a block task, from the line on whose task has the number i
-  lines_whole : (items : List Value) (b i number : ℕ) (told : Answer) (fuel : ℕ) (xs out : List Value) → 3 * length items + 1 ≤ fuel
-      → RunsWhole ghosts body (record { path = b ∷ []; local = local.Lines (record { number = number; lines = items }); answer = told; fuel = fuel; holdings = pushing; children = i }) (shape xs out) (shape xs (out ++ pushed body.width items)) (block_faults body.width (b ∷ []) i number items)
-  lines_whole [] b i number told fuel xs out enough = ends_so ghosts (ap (shape xs) (sym (append-nil out))) refl (finishes ghosts (omega arith) refl)
-  lines_whole (x ∷ items) b i number told fuel xs out enough =
+  lines_whole : (items : List Value) (b i failed number : ℕ) (told : Answer) (fuel : ℕ) (xs out : List Value) → 3 * length items + 1 ≤ fuel
+      → RunsWhole ghosts body (record { path = b ∷ []; local = local.Lines (record { number = number; lines = items }); answer = told; fuel = fuel; holdings = pushing; children = i; failed = failed }) (shape xs out) (shape xs (out ++ pushed body.width items)) (block_faults body.width (b ∷ []) i number items)
+  lines_whole [] b i failed number told fuel xs out enough = ends_so ghosts (ap (shape xs) (sym (append-nil out))) refl (finishes ghosts (omega arith) refl)
+  lines_whole (x ∷ items) b i failed number told fuel xs out enough =
       let here = pushed_of (trouble body.width x) (bytes_of x) in
       ends_so ghosts (ap (shape xs) (append_assoc out here (pushed body.width items))) refl
       (spawns_child ghosts (omega arith) refl refl refl (omega arith) (omega arith) (line_whole (b ∷ i ∷ []) number x (trouble body.width x) xs out refl)
-      (lines_whole items b (i + 1) (later number 1) answer.Nothing (fuel - 1 - 2) xs (out ++ here) (omega arith)))
+      (λ last. lines_whole items b (i + 1) last (later number 1) answer.Nothing (fuel - 1 - 2) xs (out ++ here) (omega arith)))
 
   block_given : (block : Lines) → IsGiven ghosts body [] holds shape adds books (block_task block)
   block_given block = record {
     held = pushing;
     holds = refl;
     lawful = refl;
-    whole = λ b xs out. lines_whole block.lines b 0 block.number answer.Start (3 * length block.lines + 1) xs out (omega arith);
+    whole = λ b xs out. lines_whole block.lines b 0 0 block.number answer.Start (3 * length block.lines + 1) xs out (omega arith);
   }
 
   -- the root, as a task that reads in blocks
@@ -151,14 +151,14 @@ module _ (body : RecordBody) where
   -- ---- the root
 
   root_whole : (xs : List Value) (fuel : ℕ) → 7 * length xs + 2 ≤ fuel
-      → RunsWhole ghosts body (record { path = []; local = local.Reads (reader.Looks (kept first)); answer = answer.Start; fuel = fuel; holdings = holds; children = 0 })
+      → RunsWhole ghosts body (record { path = []; local = local.Reads (reader.Looks (kept first)); answer = answer.Start; fuel = fuel; holdings = holds; children = 0; failed = 0 })
       (shape xs []) (shape [] (pushed body.width xs)) (line_faults body.width 0 xs)
   root_whole xs fuel paid =
       let children = blocks task first xs in
       tests_empty ghosts (omega (arith, paid)) refl refl refl
       (ends_so ghosts (ap (shape []) (pushed_are xs)) (append-nil (all_book task 0 children) ∙ booked_are xs)
-      (runs_blocks task xs first [] (fuel - 1) 0 (shape [] (all_do task [] children)) [] (omega (arith, paid, costs_are xs))
-      (λ left same at told is. finishes ghosts (omega (arith, same, paid, costs_are xs)) (is (left - 1)))))
+      (runs_blocks task xs first [] (fuel - 1) 0 0 (shape [] (all_do task [] children)) [] (omega (arith, paid, costs_are xs))
+      (λ left same at told failed is. finishes ghosts (omega (arith, same, paid, costs_are xs)) (is (left - 1)))))
 
 pub is_converted : (text : List ℕ) → length text ≤ TEXT_MOST → IsConverted text (outcome ghosts (record_plan text))
 is_converted text few =

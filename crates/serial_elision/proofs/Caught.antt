@@ -2,11 +2,11 @@
 use Rattle.std.proofs.Common.{◌≡◌, ◌⊎◌, inl, inr, ℕ, zero, suc, ◌+◌, ◌<◌, ◌≤◌, ◌&&◌, Bool, true, false, cond, nat_le, List, [], ◌∷◌, ◌++◌, Some, refl, sym, ap, subst, ◌∙◌, arith}
 use Rattle.std.proofs.lemmas.Bool.{cases_lt}
 use Rattle.std.proofs.lemmas.Option.{slice_get-get_or, slice_get_within, get_or_from_slice_get}
-use Rattle.std.specs.Prelude.{All}
 use Rattle.swan_model.specs.declared.body.Body.{Ghosts}
 use Rattle.swan_model.specs.declared.fault.Fault.{Fault}
 use Rattle.swan_model.specs.declared.plan.Plan.{Plan}
 use Rattle.swan_model.specs.declared.script.Deed.{Deed}
+use Rattle.swan_model.specs.declared.script.Deed.TheVariants as deed
 use Rattle.swan_model.specs.declared.script.Script.{Script}
 use Rattle.swan_model.specs.Elision.{outcome, serial}
 use Rattle.swan_model.specs.Granted.{is_spawn}
@@ -29,21 +29,30 @@ use Rattle.serial_elision.proofs.Turns.{FitsDeed, next_deed, step-fits}
 
 -- ---- how many of some children failed
 
-failed-none : (booked : List Fault) (path : List ℕ) (from to : ℕ) → to ≤ from → failed_children booked path from to ≡ 0
+pub failed-none : (booked : List Fault) (path : List ℕ) (from to : ℕ) → to ≤ from → failed_children booked path from to ≡ 0
 failed-none booked path from zero most = refl
 failed-none booked path from (suc i) most =
     let rest = failed-none booked path from i (omega (arith, most)) in
     let past : nat_le from i ≡ false = grind arith in
-    grind
+    grind (arith, rest, past)
 
 failed-next : (booked : List Fault) (path : List ℕ) (from i : ℕ) → from ≤ i
     → failed_children booked path from (suc i) ≡ cond (has_failed booked (path ++ i ∷ [])) (failed_children booked path from i + 1) (failed_children booked path from i)
-failed-next booked path from i most = let counts : nat_le from i ≡ true = grind arith in grind
+failed-next booked path from i most = let counts : nat_le from i ≡ true = grind arith in grind (arith, counts)
 
 sync-spawn : (does : Deed) → is_spawn does ≡ true → is_sync does ≡ false
-sync-spawn does is = grind
+sync-spawn (deed.Spawn gives) is = refl
+sync-spawn deed.Sync is = absurd (cc)
+sync-spawn deed.Quiet is = refl
+sync-spawn deed.MakeQueue is = refl
+sync-spawn (deed.MakeObject first) is = refl
+sync-spawn (deed.Read o) is = refl
+sync-spawn (deed.Write o value) is = refl
+sync-spawn (deed.Push o value) is = refl
+sync-spawn (deed.Pop o) is = refl
+sync-spawn (deed.Test o) is = refl
 
-synced-before : (s : Script) (path : List ℕ) (k : ℕ) → children_by_sync s path k ≤ children_by s path k
+pub synced-before : (s : Script) (path : List ℕ) (k : ℕ) → children_by_sync s path k ≤ children_by s path k
 synced-before s path zero = omega arith
 synced-before s path (suc k) = grind (arith, synced-before s path k)
 
@@ -57,25 +66,29 @@ module _ {B L : Type 0} (G : Ghosts B L) (plan : Plan B L) where
   abbrev HasBegun : ℕ → Activation L → Type 0
   HasBegun n a = (t : ℕ) × (t < n) × IsEntryOf (script G plan) a.path t
 
+  abbrev HaveBegun : ℕ → List (Activation L) → Type 0
+  HaveBegun n [] = Unit {0}
+  HaveBegun n (a ∷ stack) = HasBegun n a × HaveBegun n stack
+
   -- the top one has taken a step or is new, and those below have taken one
   abbrev AreBegun : ℕ → List (Activation L) → Type 0
   AreBegun n [] = Unit {0}
-  AreBegun n (top ∷ below) = (IsNew top ⊎ HasBegun n top) × All (HasBegun n) below
+  AreBegun n (top ∷ below) = (IsNew top ⊎ HasBegun n top) × HaveBegun n below
 
-  begun-later : (n : ℕ) (stack : List (Activation L)) → All (HasBegun n) stack → All (HasBegun (suc n)) stack
+  begun-later : (n : ℕ) (stack : List (Activation L)) → HaveBegun n stack → HaveBegun (suc n) stack
   begun-later n [] begun = tt
   begun-later n (a ∷ stack) begun = ((begun.0.0, omega (arith, begun.0.1), begun.0.2), begun-later n stack begun.1)
 
-  begun-top : (n : ℕ) (stack : List (Activation L)) → All (HasBegun n) stack → AreBegun n stack
+  begun-top : (n : ℕ) (stack : List (Activation L)) → HaveBegun n stack → AreBegun n stack
   begun-top n [] begun = tt
   begun-top n (a ∷ stack) begun = (inr begun.0, begun.1)
 
-  begun-failed : (n : ℕ) (stack : List (Activation L)) → All (HasBegun n) stack → All (HasBegun n) (with_failed stack)
+  begun-failed : (n : ℕ) (stack : List (Activation L)) → HaveBegun n stack → HaveBegun n (with_failed stack)
   begun-failed n [] begun = tt
   begun-failed n (a ∷ stack) begun = begun
 
   after-begun : (n : ℕ) (s : State L) (top : Activation L) (below : List (Activation L)) (place : ℕ) (does : Deed) (done : Effect L) → FitsDeed top does done → IsEntryOf (script G plan) top.path n
-      → All (HasBegun n) below → AreBegun (suc n) (state_after s below top.path place done).stack
+      → HaveBegun n below → AreBegun (suc n) (state_after s below top.path place done).stack
   after-begun n s top below place does (goes_on a store) fits own begun =
       (inr (n, omega arith, subst (λ p. IsEntryOf (script G plan) p n) (sym fits.0) own), begun-later n below begun)
   after-begun n s top below place does (spawns parent child store) fits own begun =

@@ -12,13 +12,17 @@ use Rattle.swan_model.specs.declared.value.Value.{Value}
 use Rattle.swan_model.specs.Elision.{serial, most_steps}
 use Rattle.swan_model.specs.Rights.{is_aliased}
 use Rattle.swan_model.specs.SerialState.{Activation, Holding, Queue, Store, State}
-use Rattle.swan_model.specs.SerialStep.{Effect, goes_on, spawns, ends, faults, state_after, effect, step_on, after_next, number_at, popped, spawn_effect, given}
+use Rattle.swan_model.specs.SerialStep.{Effect, goes_on, spawns, ends, faults, state_after, with_failed, effect, step_on, after_next, number_at, popped, spawn_effect, given}
 use Rattle.serial_elision.proofs.Asks.{on_object-either, on_queue-either}
 
 -- how many steps a stack can still take
 abbrev pub potential : {L : Type 0} → List (Activation L) → ℕ
 potential [] = 0
 potential (a ∷ below) = 2 * a.fuel + 1 + potential below
+
+potential-failed : {L : Type 0} (stack : List (Activation L)) → potential (with_failed stack) ≡ potential stack
+potential-failed [] = refl
+potential-failed (parent ∷ below) = refl
 
 -- the activations that an effect leaves have no more fuel than this
 abbrev pub IsWithinFuel : {L : Type 0} → ℕ → Effect L → Type 0
@@ -67,13 +71,13 @@ after-falls : {L : Type 0} (s : State L) (below : List (Activation L)) (path : L
 after-falls s below path place fuel (goes_on a store) within paid = omega arith
 after-falls s below path place fuel (spawns parent child store) within paid = omega arith
 after-falls s below path place fuel ends within paid = omega arith
-after-falls s below path place fuel (faults kind) within paid = omega arith
+after-falls s below path place fuel (faults kind) within paid = omega (arith, potential-failed below)
 
 module _ {B L : Type 0} (G : Ghosts B L) where
   top-falls : (body : B) (s : State L) (top : Activation L) (below : List (Activation L)) (dry : Bool) → nat_eq top.fuel 0 ≡ dry → potential (step_on G body s (top ∷ below)).stack ≤ 2 * top.fuel + potential below
   top-falls body s top below true is =
       let asked = G.next body top.local top.answer (top.fuel - 1) in
-      omega (arith, ap (λ b. potential (state_after s below top.path (G.place_of body top.local) (cond b (faults kind.Fuel) (effect s.steps s.store (after_next top asked.0) asked.1))).stack) is)
+      omega (arith, potential-failed below, ap (λ b. potential (state_after s below top.path (G.place_of body top.local) (cond b (faults kind.Fuel) (effect s.steps s.store (after_next top asked.0) asked.1))).stack) is)
   top-falls body s top below false is =
       let asked = G.next body top.local top.answer (top.fuel - 1) in
       let done = effect s.steps s.store (after_next top asked.0) asked.1 in

@@ -16,7 +16,7 @@ use Rattle.swan_model.specs.declared.value.Value.{Value}
 use Rattle.swan_model.specs.Elision.{serial}
 use Rattle.swan_model.specs.Rights.{is_aliased}
 use Rattle.swan_model.specs.SerialState.{Activation, Holding, Queue, Store, State}
-use Rattle.swan_model.specs.SerialStep.{Effect, goes_on, spawns, ends, faults, state_after, effect, effect_of, step_on, after_next, number_at, popped, spawn_effect, given}
+use Rattle.swan_model.specs.SerialStep.{Effect, goes_on, spawns, ends, faults, state_after, with_failed, effect, effect_of, step_on, after_next, number_at, popped, spawn_effect, given}
 use Rattle.swan_model.specs.PathOrder.{comes_before}
 use Rattle.serial_elision.specs.Laws.{AreInOrder}
 use Rattle.serial_elision.proofs.Asks.{on_object-either, on_queue-either, if-either}
@@ -64,6 +64,16 @@ precedes-moved path a b same more before =
       task = ap (comes_before path) same ∙ before.task;
       children = λ number most. ap (λ p. is_left path (p ++ number ∷ [])) same ∙ before.children number (omega arith);
     }
+
+-- and where one more of the first one's children has failed
+pub precedes-failed : {L : Type 0} (path : List ℕ) (stack : List (Activation L)) → PrecedesEach path stack → PrecedesEach path (with_failed stack)
+precedes-failed path [] each = tt
+precedes-failed path (parent ∷ below) each =
+    (precedes-moved path parent (record parent { failed = parent.failed + 1 }) refl (omega arith) each.0, each.1)
+
+nested-failed : {L : Type 0} (stack : List (Activation L)) → EachPrecedesBelow stack → EachPrecedesBelow (with_failed stack)
+nested-failed [] each = tt
+nested-failed (parent ∷ below) each = each
 
 -- what comes before an activation comes before the child that it spawns now
 pub precedes-spawned : {L : Type 0} (path : List ℕ) (a child : Activation L) → child.path ≡ a.path ++ a.children ∷ [] → Precedes path a → Precedes path child
@@ -168,10 +178,10 @@ after-ordered s top below place ends stands ordered =
     }
 after-ordered s top below place (faults kind) stands ordered =
     let fault : Fault = record { path = top.path; place = place; kind = kind } in
-    let before = faults_precede-other (top ∷ below) below (λ path each. each.1) s.faults ordered.before in
+    let before = faults_precede-other (top ∷ below) (with_failed below) (λ path each. precedes-failed path below each.1) s.faults ordered.before in
     record {
-      nested = ordered.nested.1;
-      before = faults_precede-push below s.faults fault before ordered.nested.0;
+      nested = nested-failed below ordered.nested.1;
+      before = faults_precede-push (with_failed below) s.faults fault before (precedes-failed top.path below ordered.nested.0);
       in_order = in_order-push top below s.faults fault refl ordered.before ordered.in_order;
     }
 

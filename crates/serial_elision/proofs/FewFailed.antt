@@ -1,6 +1,6 @@
 -- No task has more failed children than steps were taken.
 use Rattle.std.proofs.Common.{◌≡◌, ℕ, zero, suc, ◌+◌, ◌^◌, ◌<◌, ◌≤◌, List, [], ◌∷◌, refl, sym, subst, arith}
-use Rattle.std.specs.Prelude.{All}
+use Rattle.std.proofs.lemmas.List.Elements.{All-cons, All-nil}
 use Rattle.swan_model.specs.declared.body.Body.{Ghosts}
 use Rattle.swan_model.specs.declared.plan.Plan.{Plan}
 use Rattle.swan_model.specs.declared.plan.TheConstants.{FUEL_MOST}
@@ -14,7 +14,8 @@ use Rattle.serial_elision.proofs.Runs.{steps-after}
 use Rattle.serial_elision.proofs.Turns.{FitsDeed, next_deed, step-fits}
 
 abbrev AreFew : {L : Type 0} → ℕ → List (Activation L) → Type 0
-AreFew n stack = All (λ a. a.failed ≤ n) stack
+AreFew n [] = Unit {0}
+AreFew n (a ∷ stack) = (a.failed ≤ n) × AreFew n stack
 
 few-later : {L : Type 0} (n m : ℕ) (stack : List (Activation L)) → n ≤ m → AreFew n stack → AreFew m stack
 few-later n m [] more few = tt
@@ -35,8 +36,8 @@ after-few s top below place does ends fits few = few-later s.steps (s.steps + 1)
 after-few s top below place does (faults kind) fits few = few-failed s.steps below few.1
 
 may_fail : {L : Type 0} (n : ℕ) (stack : List (Activation L)) → n + 1 < 2 ^ 64 → AreFew n stack → MayFail stack
-may_fail n [] less few = tt
-may_fail n (a ∷ stack) less few = (omega (arith, few.0), may_fail n stack less few.1)
+may_fail n [] less few = All-nil (λ a. a.failed + 1 < 2 ^ 64)
+may_fail n (a ∷ stack) less few = All-cons (λ a. a.failed + 1 < 2 ^ 64) a stack (omega (arith, few.0)) (may_fail n stack less few.1)
 
 module _ {B L : Type 0} (G : Ghosts B L) (plan : Plan B L) where
   step-few : (s : State L) (stack : List (Activation L)) → s.stack ≡ stack → AreFew s.steps stack → AreFew (step_on G plan.body s stack).steps (step_on G plan.body s stack).stack

@@ -9,14 +9,15 @@ use Rattle.swan_model.specs.declared.rights.Give.{Give}
 use Rattle.swan_model.specs.declared.script.Deed.{Deed}
 use Rattle.swan_model.specs.Elision.{serial}
 use Rattle.swan_model.specs.SerialState.{Activation, Holding, State, Store}
-use Rattle.swan_model.specs.SerialStep.{Effect, goes_on, spawns, ends, faults, state_after, effect, effect_of, given, given_also, after_next, number_at, step_on}
+use Rattle.swan_model.specs.SerialStep.{Effect, goes_on, spawns, ends, faults, state_after, with_failed, effect, effect_of, given, given_also, after_next, number_at, step_on}
 use Rattle.swan_model.specs.TrueFrames.{StandsAt, state_at}
 use Rattle.swan_model.specs.SerialTime.{time}
 use Rattle.swan_model.specs.Script.{script}
 use Rattle.serial_elision.proofs.Ends.{IsWithinFuel, effect-within}
 use Rattle.serial_elision.proofs.Granting.{Grants, IsMadeByStep}
 use Rattle.serial_elision.proofs.RightsTold.{step-grants}
-use Rattle.serial_elision.proofs.TaskSteps.{HasStood, stands-one, stood-before}
+use Rattle.serial_elision.proofs.Onward.{HasStood, stood-before}
+use Rattle.serial_elision.proofs.TaskSteps.{stands-one}
 use Rattle.serial_elision.proofs.Turns.{FitsDeed, next_deed, step-fits}
 
 -- an effect leaves less fuel than this
@@ -43,12 +44,16 @@ abbrev AreWithin : {L : Type 0} → ℕ → List (Activation L) → Type 0
 AreWithin most [] = Unit {0}
 AreWithin most (a ∷ below) = (a.children + a.fuel ≤ most) × AreWithin most below
 
+within-failed : {L : Type 0} (most : ℕ) (stack : List (Activation L)) → AreWithin most stack → AreWithin most (with_failed stack)
+within-failed most [] are = tt
+within-failed most (parent ∷ below) are = are
+
 after-within : {L : Type 0} (most : ℕ) (s : State L) (top : Activation L) (below : List (Activation L)) (place : ℕ) (does : Deed) (done : Effect L) → FitsDeed top does done → LeavesLess top.fuel done
     → AreWithin most (top ∷ below) → AreWithin most (state_after s below top.path place done).stack
 after-within most s top below place does (goes_on a store) fits less are = (omega (arith, fits.1, are.0), are.1)
 after-within most s top below place does (spawns parent child store) fits less are = (omega (arith, fits.3, are.0), (omega (arith, fits.1, are.0), are.1))
 after-within most s top below place does ends fits less are = are.1
-after-within most s top below place does (faults kind) fits less are = are.1
+after-within most s top below place does (faults kind) fits less are = within-failed most below are.1
 
 module _ {B L : Type 0} (G : Ghosts B L) (plan : Plan B L) where
   pub step-less : (n : ℕ) (store : Store) (top : Activation L) → LeavesLess top.fuel (effect_of G plan.body n store top)
@@ -93,9 +98,9 @@ module _ {B L : Type 0} (G : Ghosts B L) (plan : Plan B L) where
               let given : Grants t s.store before does (goes_on top stood.store) = subst (Grants t s.store before does) goes grants in
               placed-less t stood.store before top does given left
           | inr made ↦
-              let left : LeavesLess before.fuel (spawns top made.0 stood.store) = subst (LeavesLess before.fuel) made.1 less in
-              let given : Grants t s.store before does (spawns top made.0 stood.store) = subst (Grants t s.store before does) made.1 grants in
-              omega (arith, left, ap length given.0)
+              let left : LeavesLess before.fuel (spawns made.0 made.1 stood.store) = subst (LeavesLess before.fuel) made.2 less in
+              let given : Grants t s.store before does (spawns made.0 made.1 stood.store) = subst (Grants t s.store before does) made.2 grants in
+              omega (arith, left, ap length given.0, ap (λ (a : Activation L). length a.holdings + a.fuel) made.3)
         ],
       )
 

@@ -22,7 +22,7 @@ use Rattle.swan_model.specs.Elision.{most_steps, serial}
 use Rattle.swan_model.specs.QueueFollows.{queue_times}
 use Rattle.swan_model.specs.Script.{asked, deed_of, entry_of, entry_on, script}
 use Rattle.swan_model.specs.SerialState.{Activation, State}
-use Rattle.swan_model.specs.SerialStep.{Effect, goes_on, spawns, ends, faults, state_after, effect, effect_of, after_next, step_on}
+use Rattle.swan_model.specs.SerialStep.{Effect, goes_on, spawns, ends, faults, state_after, with_failed, effect, effect_of, after_next, step_on}
 use Rattle.swan_model.specs.SerialTime.{is_of, is_queue_deed, places_from, times}
 use Rattle.swan_model.specs.Told.{deed_at}
 use Rattle.swan_model.proofs.Elements.{option_cases, one_if, any_number}
@@ -41,11 +41,15 @@ abbrev fuel_of : {L : Type 0} → List (Activation L) → ℕ
 fuel_of [] = 0
 fuel_of (a ∷ below) = a.fuel + fuel_of below
 
+fuel-failed : {L : Type 0} (stack : List (Activation L)) → fuel_of (with_failed stack) ≡ fuel_of stack
+fuel-failed [] = refl
+fuel-failed (parent ∷ below) = refl
+
 after-fuel : {L : Type 0} (s : State L) (below : List (Activation L)) (path : List ℕ) (place fuel : ℕ) (done : Effect L) → IsWithinFuel fuel done → fuel_of (state_after s below path place done).stack ≤ fuel + fuel_of below
 after-fuel s below path place fuel (goes_on a store) within = omega arith
 after-fuel s below path place fuel (spawns parent child store) within = omega arith
 after-fuel s below path place fuel ends within = omega arith
-after-fuel s below path place fuel (faults kind) within = omega arith
+after-fuel s below path place fuel (faults kind) within = omega (arith, fuel-failed below)
 
 one_if-most : (b : Bool) → one_if b ≤ 1
 one_if-most true = omega arith
@@ -62,7 +66,7 @@ module _ {B L : Type 0} (G : Ghosts B L) (plan : Plan B L) (test : Deed → Bool
       let said = G.next plan.body top.local top.answer (top.fuel - 1) in
       let none : effect_of G plan.body s.steps s.store top ≡ faults kind.Fuel = ap (λ b. cond b (faults kind.Fuel) (effect s.steps s.store (after_next top said.0) said.1)) is in
       let fails : one_if (passes (entry_of G plan.body s.steps s.store top)) ≡ 0 = ap (λ d. one_if (test (deed_of (asked s.store top.holdings said.1) d))) none ∙ ap one_if quiet in
-      let left : fuel_of (step_on G plan.body s (top ∷ below)).stack ≡ fuel_of below = ap (λ d. fuel_of (state_after s below top.path (G.place_of plan.body top.local) d).stack) none in
+      let left : fuel_of (step_on G plan.body s (top ∷ below)).stack ≡ fuel_of below = ap (λ d. fuel_of (state_after s below top.path (G.place_of plan.body top.local) d).stack) none ∙ fuel-failed below in
       omega (arith, fails, left)
   top-pays s top below false is =
       let said = G.next plan.body top.local top.answer (top.fuel - 1) in

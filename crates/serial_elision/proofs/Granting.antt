@@ -22,7 +22,7 @@ use Rattle.swan_model.specs.Granted.{holds, granted, granted_by, child_path, may
 use Rattle.swan_model.specs.Rights.{allows, is_aliased}
 use Rattle.swan_model.specs.Script.{asked, deed_of, gives_of, origin_of, spawn_of}
 use Rattle.swan_model.specs.SerialState.{Activation, Cell, Holding, Queue, State, Store}
-use Rattle.swan_model.specs.SerialStep.{Effect, goes_on, spawns, ends, faults, state_after, effect, number_at, popped, spawn_effect, given}
+use Rattle.swan_model.specs.SerialStep.{Effect, goes_on, spawns, ends, faults, state_after, with_failed, effect, number_at, popped, spawn_effect, given}
 use Rattle.swan_model.specs.SerialTime.{is_of}
 use Rattle.swan_model.specs.Told.{is_same}
 use Rattle.serial_elision.proofs.Asks.{on_object-either, on_queue-either, if-either}
@@ -125,6 +125,10 @@ abbrev pub HoldEach : {L : Type 0} → Script → ℕ → Store → List (Activa
 HoldEach s n store [] = Unit {0}
 HoldEach s n store (a ∷ below) = AreHeldBy (holds s a.path n) store a.holdings × HoldEach s n store below
 
+hold-failed : {L : Type 0} (s : Script) (n : ℕ) (store : Store) (stack : List (Activation L)) → HoldEach s n store stack → HoldEach s n store (with_failed stack)
+hold-failed s n store [] each = tt
+hold-failed s n store (parent ∷ below) each = each
+
 held-as : (s : Script) (n : ℕ) (store : Store) (path other : List ℕ) (hs now : List Holding) → other ≡ path → now ≡ hs → AreHeldBy (holds s path n) store hs → AreHeldBy (holds s other n) store now
 held-as s n store path other hs now same equal are =
     subst (λ p. AreHeldBy (holds s p n) store now) (sym same) (subst (AreHeldBy (holds s path n) store) (sym equal) are)
@@ -164,7 +168,7 @@ after-hold s n e state top below place does (spawns parent child store) fits gra
 after-hold s n e state top below place does ends fits grants is own deed_is counted stand each =
     each-next s n e state.store state.store below is stand each.1
 after-hold s n e state top below place does (faults kind) fits grants is own deed_is counted stand each =
-    each-next s n e state.store state.store below is stand each.1
+    hold-failed s (suc n) state.store below (each-next s n e state.store state.store below is stand each.1)
 
 -- a deed is within what what was asked is within
 pub deed-within : {L : Type 0} (held : List OriginGive) (does : Deed) (done : Effect L) → is_within held does ≡ true → is_within held (deed_of does done) ≡ true

@@ -13,7 +13,7 @@ use Rattle.swan_model.specs.Nested.{IsEndOf}
 use Rattle.swan_model.specs.Roots.{IsWithinBounds}
 use Rattle.swan_model.specs.Script.{deed_of, is_end, script}
 use Rattle.swan_model.specs.SerialState.{Activation, State}
-use Rattle.swan_model.specs.SerialStep.{Effect, goes_on, spawns, ends, faults, state_after, effect_of, step_on}
+use Rattle.swan_model.specs.SerialStep.{Effect, goes_on, spawns, ends, faults, state_after, with_failed, effect_of, step_on}
 use Rattle.serial_elision.proofs.EndDeeds.{ending}
 use Rattle.serial_elision.proofs.Endings.{nested, root_ends}
 use Rattle.serial_elision.proofs.Nesting.{top_at, next_stack, end_is_last, counted}
@@ -36,6 +36,14 @@ abbrev AreChildren : {L : Type 0} → List (Activation L) → Type 0
 AreChildren [] = Unit {0}
 AreChildren (a ∷ below) = IsChildOfFirst a.path below × AreChildren below
 
+child-failed : {L : Type 0} (path : List ℕ) (stack : List (Activation L)) → IsChildOfFirst path stack → IsChildOfFirst path (with_failed stack)
+child-failed path [] is = tt
+child-failed path (parent ∷ below) is = is
+
+children-failed : {L : Type 0} (stack : List (Activation L)) → AreChildren stack → AreChildren (with_failed stack)
+children-failed [] each = tt
+children-failed (parent ∷ below) each = each
+
 child-moved : {L : Type 0} (path other : List ℕ) (below : List (Activation L)) → other ≡ path → IsChildOfFirst path below → IsChildOfFirst other below
 child-moved path other below same is = subst (λ p. IsChildOfFirst p below) (sym same) is
 
@@ -46,7 +54,7 @@ after-children s top below place does (spawns parent child store) fits each = (
   (child-moved top.path parent.path below fits.0 each.0, each.1),
 )
 after-children s top below place does ends fits each = each.1
-after-children s top below place does (faults kind) fits each = each.1
+after-children s top below place does (faults kind) fits each = children-failed below each.1
 
 -- ---- whose entry comes next
 
@@ -68,7 +76,7 @@ next-path s n entry state top below place does (spawns parent made store) fits o
 next-path s n entry state top below place does ends fits own deed over many child then under left =
     next-parent s n entry top.path below under then own (ap is_spawn deed ∙ fits) over child left
 next-path s n entry state top below place does (faults kind) fits own deed over many child then under left =
-    next-parent s n entry top.path below under then own (ap is_spawn deed ∙ fits) over child left
+    next-parent s n entry top.path (with_failed below) under then own (ap is_spawn deed ∙ fits) over (child-failed top.path below child) left
 
 module _ {B L : Type 0} (G : Ghosts B L) where
   children-on : (body : B) (s : State L) (stack : List (Activation L)) → s.stack ≡ stack → AreChildren stack → AreChildren (step_on G body s stack).stack

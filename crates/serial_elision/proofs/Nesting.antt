@@ -14,7 +14,7 @@ use Rattle.swan_model.specs.SerialStep.{step_on, effect_of, state_after}
 use Rattle.swan_model.specs.SerialTime.{is_of}
 use Rattle.swan_model.specs.PathOrder.{comes_before}
 use Rattle.serial_elision.proofs.Entries.{get_script}
-use Rattle.serial_elision.proofs.FaultOrder.{PrecedesEach, serial-ordered}
+use Rattle.serial_elision.proofs.FaultOrder.{PrecedesEach, precedes-failed, serial-ordered}
 use Rattle.serial_elision.proofs.FaultOrder as order
 use Rattle.serial_elision.proofs.Passing.{after-precedes, IsNotYetEach, not_yet-top, after-not_yet, after-end, AreCounted, AreNotYet, after-counted}
 use Rattle.swan_model.proofs.PathOrder.{not_before-under}
@@ -86,11 +86,11 @@ module _ {B L : Type 0} (G : Ghosts B L) where
         let s = serial G plan t in
         let at = top_at plan t end.entry end.stands in
         let own : at.top.path ≡ path = sym at.own ∙ end.own in
-        let over : (serial G plan (suc t)).stack ≡ at.below =
-        next_stack plan t at.top at.below at.stack
-        ∙ after-end s at.below at.top.path (G.place_of plan.body at.top.local) (effect_of G plan.body s.steps s.store at.top) (sym at.ends ∙ end.ends) in
         let first : PrecedesEach path at.below = subst (λ p. PrecedesEach p at.below) own (top_precedes plan t at.top at.below at.stack) in
-        let then = precedes-later plan path (suc t) u later (subst (PrecedesEach path) (sym over) first) in
+        let over : PrecedesEach path (stack_after_step plan.body s at.top at.below) =
+        after-end (PrecedesEach path) s at.below at.top.path (G.place_of plan.body at.top.local) (effect_of G plan.body s.steps s.store at.top) (sym at.ends ∙ end.ends)
+        (precedes-failed path at.below) first in
+        let then = precedes-later plan path (suc t) u later (subst (PrecedesEach path) (sym (next_stack plan t at.top at.below at.stack)) over) in
         let there = top_at plan u under.entry under.stands in
         let each : PrecedesEach path (there.top ∷ there.below) = subst (PrecedesEach path) there.stack then in
         let is : there.top.path ≡ path ++ under.rest = sym there.own ∙ under.under in

@@ -25,20 +25,25 @@ use Rattle.serial_elision.proofs.TaskSteps.{child-ends, ends_last, entry_own, fi
 
 -- ---- whether a task has failed
 
-failed-at : (faults : List Fault) (j : ℕ) (fault : Fault) → slice_get faults j ≡ Some fault → has_failed faults fault.path ≡ true
+pub failed-at : (booked : List Fault) (j : ℕ) (fault : Fault) → slice_get booked j ≡ Some fault → has_failed booked fault.path ≡ true
 failed-at [] j fault at = absurd (cc)
-failed-at (f ∷ faults) zero fault at = let same : f ≡ fault = cc in let itself = path_is-itself fault.path in rw same grind
-failed-at (f ∷ faults) (suc j) fault at = let rest = failed-at faults j fault at in grind
+failed-at (f ∷ booked) zero fault at = let same : f ≡ fault = cc in let itself = path_is-itself fault.path in grind (arith, same, itself)
+failed-at (f ∷ booked) (suc j) fault at = let rest = failed-at booked j fault at in grind (arith, rest)
 
-failed-from : (faults : List Fault) (path : List ℕ) → has_failed faults path ≡ true → (j : ℕ) × (fault : Fault) × (slice_get faults j ≡ Some fault) × (fault.path ≡ path)
+abbrev pub HasFaultOf : List Fault → List ℕ → Type 0
+HasFaultOf booked path = (j : ℕ) × (fault : Fault) × (slice_get booked j ≡ Some fault) × (fault.path ≡ path)
+
+failed-here : (f : Fault) (booked : List Fault) (path : List ℕ) (here : Bool) → pointwise nat_eq f.path path ≡ here → (has_failed booked path ≡ true → HasFaultOf booked path)
+    → has_failed (f ∷ booked) path ≡ true → HasFaultOf (f ∷ booked) path
+failed-here f booked path true here later is = (0, f, refl, same_path f.path path here)
+failed-here f booked path false here later is =
+    let rest : has_failed booked path ≡ true = grind (arith, is, here) in
+    let found = later rest in
+    (suc found.0, found.1, found.2, found.3)
+
+pub failed-from : (booked : List Fault) (path : List ℕ) → has_failed booked path ≡ true → HasFaultOf booked path
 failed-from [] path is = absurd (cc)
-failed-from (f ∷ faults) path is = by (pointwise nat_eq f.path path) refl where
-  by : (here : Bool) → pointwise nat_eq f.path path ≡ here → (j : ℕ) × (fault : Fault) × (slice_get (f ∷ faults) j ≡ Some fault) × (fault.path ≡ path)
-  by true here = (0, f, refl, same_path f.path path here)
-  by false here =
-      let rest : has_failed faults path ≡ true = grind in
-      let found = failed-from faults path rest in
-      (suc found.0, found.1, found.2, found.3)
+failed-from (f ∷ booked) path is = failed-here f booked path (pointwise nat_eq f.path path) refl (failed-from booked path) is
 
 abbrev pub is_fault : {L : Type 0} → Effect L → Bool
 is_fault (faults kind) = true

@@ -10,10 +10,10 @@ use Rattle.swan_model.specs.declared.script.Entry.{Entry}
 use Rattle.swan_model.specs.Granted.{is_spawn}
 use Rattle.swan_model.specs.Script.{deed_of, is_end}
 use Rattle.swan_model.specs.SerialState.{Activation, State}
-use Rattle.swan_model.specs.SerialStep.{Effect, goes_on, spawns, ends, faults, state_after}
+use Rattle.swan_model.specs.SerialStep.{Effect, goes_on, spawns, ends, faults, state_after, with_failed}
 use Rattle.swan_model.specs.SerialTime.{is_of}
 use Rattle.swan_model.specs.PathOrder.{comes_before}
-use Rattle.serial_elision.proofs.FaultOrder.{Precedes, PrecedesEach, precedes-moved, precedes-spawned}
+use Rattle.serial_elision.proofs.FaultOrder.{Precedes, PrecedesEach, precedes-failed, precedes-moved, precedes-spawned}
 use Rattle.swan_model.proofs.PathOrder.{is_left, not_before-under, not_left-above}
 use Rattle.swan_model.proofs.Places.{passing, passing-more, passing-none}
 use Rattle.serial_elision.proofs.Turns.{FitsDeed}
@@ -28,7 +28,7 @@ after-precedes path s top below place does (goes_on a store) fits each =
 after-precedes path s top below place does (spawns parent child store) fits each =
     (precedes-spawned path top child fits.2 each.0, (precedes-moved path top parent fits.0 (omega (arith, fits.1)) each.0, each.1))
 after-precedes path s top below place does ends fits each = each.1
-after-precedes path s top below place does (faults kind) fits each = each.1
+after-precedes path s top below place does (faults kind) fits each = precedes-failed path below each.1
 
 -- a path is that of no child that the activation may yet spawn, nor below one
 pub record IsNotYet {L : Type 0} (path : List ℕ) (a : Activation L) : Type 0 where
@@ -65,18 +65,27 @@ not_yet-spawned path a child same before =
           before.none a.children (number ∷ rest) (omega arith) (is ∙ ap (λ p. p ++ number ∷ rest) same ∙ append_assoc a.path (a.children ∷ []) (number ∷ rest));
     }
 
+not_yet-failed : {L : Type 0} (path : List ℕ) (stack : List (Activation L)) → IsNotYetEach path stack → IsNotYetEach path (with_failed stack)
+not_yet-failed path [] each = tt
+not_yet-failed path (parent ∷ below) each =
+    (not_yet-moved path parent (record parent { failed = parent.failed + 1 }) refl (omega arith) each.0, each.1)
+
 pub after-not_yet : {L : Type 0} (path : List ℕ) (s : State L) (top : Activation L) (below : List (Activation L)) (place : ℕ) (does : Deed) (done : Effect L) → FitsDeed top does done → IsNotYetEach path (top ∷ below) → IsNotYetEach path (state_after s below top.path place done).stack
 after-not_yet path s top below place does (goes_on a store) fits each =
     (not_yet-moved path top a fits.0 (omega (arith, fits.1)) each.0, each.1)
 after-not_yet path s top below place does (spawns parent child store) fits each =
     (not_yet-spawned path top child fits.2 each.0, (not_yet-moved path top parent fits.0 (omega (arith, fits.1)) each.0, each.1))
 after-not_yet path s top below place does ends fits each = each.1
-after-not_yet path s top below place does (faults kind) fits each = each.1
+after-not_yet path s top below place does (faults kind) fits each = not_yet-failed path below each.1
 
 -- the activation of a path is on the stack, and all above it is below it in the tree
 abbrev pub IsRunning : {L : Type 0} → List ℕ → List (Activation L) → Type 0
 IsRunning path [] = ⊥
 IsRunning path (a ∷ below) = (a.path ≡ path) ⊎ (IsUnder path a.path × IsRunning path below)
+
+running-failed : {L : Type 0} (path : List ℕ) (stack : List (Activation L)) → IsRunning path stack → IsRunning path (with_failed stack)
+running-failed path [] running = running
+running-failed path (parent ∷ below) running = running
 
 pub after-running : {L : Type 0} (path : List ℕ) (s : State L) (top : Activation L) (below : List (Activation L)) (place : ℕ) (does : Deed) (done : Effect L) → FitsDeed top does done → IsRunning path (top ∷ below) → ((top.path ≡ path) × (is_end done ≡ true)) ⊎ IsRunning path (state_after s below top.path place done).stack
 after-running path s top below place does (goes_on a store) fits (inl own) = inr (inl (fits.0 ∙ own))
@@ -88,14 +97,15 @@ after-running path s top below place does (spawns parent child store) fits (inr 
 after-running path s top below place does ends fits (inl own) = inl (own, refl)
 after-running path s top below place does ends fits (inr over) = inr over.1
 after-running path s top below place does (faults kind) fits (inl own) = inl (own, refl)
-after-running path s top below place does (faults kind) fits (inr over) = inr over.1
+after-running path s top below place does (faults kind) fits (inr over) = inr (running-failed path below over.1)
 
--- an effect that ends its activation leaves those below it
-pub after-end : {L : Type 0} (s : State L) (below : List (Activation L)) (path : List ℕ) (place : ℕ) (done : Effect L) → is_end done ≡ true → (state_after s below path place done).stack ≡ below
-after-end s below path place (goes_on a store) is = absurd (cc)
-after-end s below path place (spawns parent child store) is = absurd (cc)
-after-end s below path place ends is = refl
-after-end s below path place (faults kind) is = refl
+-- An effect that ends its activation leaves those below it, by a fault with one more failed child. So what holds of those
+-- below, with and without it, holds then.
+pub after-end : {L : Type 0} (P : List (Activation L) → Type 0) (s : State L) (below : List (Activation L)) (path : List ℕ) (place : ℕ) (done : Effect L) → is_end done ≡ true → (P below → P (with_failed below)) → P below → P (state_after s below path place done).stack
+after-end P s below path place (goes_on a store) is failed holds = absurd (cc)
+after-end P s below path place (spawns parent child store) is failed holds = absurd (cc)
+after-end P s below path place ends is failed holds = holds
+after-end P s below path place (faults kind) is failed holds = failed holds
 
 -- an effect whose deed is a spawn leaves the child that it made on its stack
 pub after-spawn : {L : Type 0} (s : State L) (top : Activation L) (below : List (Activation L)) (place : ℕ) (does : Deed) (done : Effect L) → FitsDeed top does done → is_spawn (deed_of does done) ≡ true → IsRunning (top.path ++ top.children ∷ []) (state_after s below top.path place done).stack
@@ -108,6 +118,10 @@ after-spawn {L = L} s top below place does (faults kind) fits is = absurd (both_
 abbrev pub AreCounted : {L : Type 0} → List Entry → ℕ → List (Activation L) → Type 0
 AreCounted es n [] = Unit {0}
 AreCounted es n (a ∷ below) = (passing (is_spawn_of a.path) n es ≡ a.children) × AreCounted es n below
+
+counted-failed : {L : Type 0} (es : List Entry) (n : ℕ) (stack : List (Activation L)) → AreCounted es n stack → AreCounted es n (with_failed stack)
+counted-failed es n [] counted = tt
+counted-failed es n (parent ∷ below) counted = counted
 
 not_of-before : {L : Type 0} (e : Entry) (path : List ℕ) (a : Activation L) → e.path ≡ path → Precedes path a → is_of a.path e ≡ false
 not_of-before e path a own before =
@@ -179,4 +193,4 @@ after-counted es n e s top below place does (spawns parent child store) fits sta
 after-counted es n e s top below place does ends fits stands own deed each not_yet counted =
     counted-below es n e top.path below stands own each counted.1
 after-counted es n e s top below place does (faults kind) fits stands own deed each not_yet counted =
-    counted-below es n e top.path below stands own each counted.1
+    counted-failed es (suc n) below (counted-below es n e top.path below stands own each counted.1)

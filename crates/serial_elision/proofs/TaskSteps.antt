@@ -75,7 +75,7 @@ module _ {B L : Type 0} (G : Ghosts B L) (plan : Plan B L) where
       record { entry = entry_of G plan.body s.steps s.store a; stands = entry_now G plan n a (more ++ rest) is; rest = under.rest; under = under.is }
 
   -- The task ends by its step at this time, with these below it.
-  record EndsOver (path : List ℕ) (rest : List (Activation L)) (time : ℕ) : Type 0 where
+  pub record EndsOver (path : List ℕ) (rest : List (Activation L)) (time : ℕ) : Type 0 where
     pub last : Activation L
     pub stack : (serial G plan time).stack ≡ last ∷ rest
     pub own : last.path ≡ path

@@ -109,7 +109,7 @@ module _ {R : Type 0} (g : Ghosts R) where
         booked_by (local.Lines block) = bad_line path (bad block)
         booked_by _ = []
 
-    after_part : (at : Option ℕ) (path : List ℕ) (xs parts : List Value) → RunsWhole G body (record { path = path; local = local.Told at; answer = answer.Nothing; fuel = 2 - 1; holdings = pushing; children = 0 }) (input_and_parts xs parts) (input_and_parts xs parts) (bad_line path at)
+    after_part : (at : Option ℕ) (path : List ℕ) (xs parts : List Value) → RunsWhole G body (record { path = path; local = local.Told at; answer = answer.Nothing; fuel = 2 - 1; holdings = pushing; children = 0; failed = 0 }) (input_and_parts xs parts) (input_and_parts xs parts) (bad_line path at)
     after_part None path xs parts = finishes G (omega arith) refl
     after_part (Some n) path xs parts = fails G (omega arith) refl
 
@@ -283,11 +283,11 @@ module _ {R : Type 0} (g : Ghosts R) where
     got_all n [] v = refl
     got_all n (item ∷ items) v = got_all n items (g.joined body.reducer (as_part g body.reducer v) (item_part g body.reducer item))
 
-    whole_end : (v : List ℕ) (end : Result (List ℕ) Trouble) → g.end_of body.reducer (as_part g body.reducer v) ≡ end → (n fuel kids : ℕ) → 2 ≤ fuel
-        → RunsWhole G body (reading (collecting n) (local.Collects (reader.Tested v)) (answer.Flag true) fuel kids) (parts_and_output [] []) (parts_and_output [] (end_records end)) (end_faults n end)
-    whole_end v (Ok r) is n fuel kids enough =
+    whole_end : (v : List ℕ) (end : Result (List ℕ) Trouble) → g.end_of body.reducer (as_part g body.reducer v) ≡ end → (n fuel kids failed : ℕ) → 2 ≤ fuel
+        → RunsWhole G body (reading (collecting n) (local.Collects (reader.Tested v)) (answer.Flag true) fuel kids failed) (parts_and_output [] []) (parts_and_output [] (end_records end)) (end_faults n end)
+    whole_end v (Ok r) is n fuel kids failed enough =
         pushes G (omega arith) (ap {B = FoldLocal × Ask FoldLocal} (λ e. (local.Ends, pushed_end e)) is) refl refl (finishes G (omega arith) refl)
-    whole_end v (Err trouble) is n fuel kids enough =
+    whole_end v (Err trouble) is n fuel kids failed enough =
         fails G (omega arith) (ap {B = FoldLocal × Ask FoldLocal} (λ e. (local.Ends, pushed_end e)) is)
 
     collector_whole : (n : ℕ) (parts : List Value) (v : List ℕ) → collected (g.zero_part body.reducer) parts ≡ v → g.is_part body.reducer v ≡ true → 2 * length parts + 3 ≤ body.collector_fuel
@@ -296,10 +296,10 @@ module _ {R : Type 0} (g : Ghosts R) where
         let zero = g.zero_part body.reducer in
         let end = g.end_of body.reducer v in
         tests_empty G (omega arith) refl refl refl
-        (reads_alone (collecting n) (λ got x. refl) parts zero [] (body.collector_fuel - 1) 0 (parts_and_output [] (end_records end)) (end_faults n end) (omega arith)
-        (λ left kids same.
-        subst (λ got. RunsWhole G body (reading (collecting n) (local.Collects (reader.Tested got)) (answer.Flag true) left kids) (parts_and_output [] []) (parts_and_output [] (end_records end)) (end_faults n end)) (sym (got_all n parts zero ∙ is))
-        (whole_end v end (ap (g.end_of body.reducer) (as_part-is g body.reducer v part_is)) n left kids (omega (arith, same)))))
+        (reads_alone (collecting n) (λ got x. refl) parts zero [] (body.collector_fuel - 1) 0 0 (parts_and_output [] (end_records end)) (end_faults n end) (omega arith)
+        (λ left kids failed same.
+        subst (λ got. RunsWhole G body (reading (collecting n) (local.Collects (reader.Tested got)) (answer.Flag true) left kids failed) (parts_and_output [] []) (parts_and_output [] (end_records end)) (end_faults n end)) (sym (got_all n parts zero ∙ is))
+        (whole_end v end (ap (g.end_of body.reducer) (as_part-is g body.reducer v part_is)) n left kids failed (omega (arith, same)))))
 
     -- ---- how many blocks there are
 
@@ -329,7 +329,7 @@ module _ {R : Type 0} (g : Ghosts R) where
     faults_are xs = bad_blocks g body.reducer 0 0 (in_blocks [] (map bytes_of xs)) ++ end_faults (length (in_blocks [] (map bytes_of xs))) (end_is xs)
 
     root_whole : (xs : List Value) (fuel : ℕ) → length xs + 1 < 2 ^ 64 → 2 * ((length xs + 63) / 64) + 3 ≤ body.collector_fuel → 4 + 5 * length xs + body.collector_fuel ≤ fuel
-        → RunsWhole G body (record { path = []; local = local.Begins; answer = answer.Start; fuel = fuel; holdings = (record { mode = Pop; number = 0 }) ∷ (record { mode = Push; number = 1 }) ∷ []; children = 0 })
+        → RunsWhole G body (record { path = []; local = local.Begins; answer = answer.Start; fuel = fuel; holdings = (record { mode = Pop; number = 0 }) ∷ (record { mode = Push; number = 1 }) ∷ []; children = 0; failed = 0 })
         (record { objects = []; queues = xs ∷ [] ∷ [] }) (parts_and_output [] (end_records (end_is xs))) (faults_are xs)
     root_whole xs fuel few enough paid =
         let children = blocks task first xs in
@@ -344,12 +344,12 @@ module _ {R : Type 0} (g : Ghosts R) where
         makes_queue G (omega (arith, paid)) refl
         (tests_empty G (omega (arith, paid)) refl refl refl
         (ends_so G refl (ap (λ fs. fs ++ end_faults (length children) end) booked ∙ ap (λ n. bad_blocks g body.reducer 0 0 cut ++ end_faults n end) many)
-        (runs_blocks task xs first [] (fuel - 1 - 1) 0 (parts_and_output [] (end_records end)) (end_faults (length children) end) (omega (arith, paid, costs_are xs))
-        (λ left same at told is.
+        (runs_blocks task xs first [] (fuel - 1 - 1) 0 0 (parts_and_output [] (end_records end)) (end_faults (length children) end) (omega (arith, paid, costs_are xs))
+        (λ left same at told failed is.
         ends_so G refl (append-nil (end_faults (0 + length children) end) ∙ ap (λ n. end_faults n end) (let e : 0 + length children ≡ length children = omega arith in e))
         (spawns_child G (omega (arith, same, paid, costs_are xs)) (is (left - 1)) refl refl (omega arith) (omega (arith, same, paid, costs_are xs))
         (collector_whole (0 + length children) parts (fold_of g body.reducer (map bytes_of xs)) (all_collected xs) total_is feeds)
-        (finishes G (omega (arith, same, paid, costs_are xs)) refl))))))
+        (λ last. finishes G (omega (arith, same, paid, costs_are xs)) refl))))))
 
   outcome_of_fold : (reducer : R) (text : List ℕ) → refusal_of text ≡ None → outcome G (fold_plan reducer text) ≡ folded g reducer (lines text)
   outcome_of_fold reducer text accepted =

@@ -1,8 +1,8 @@
 -- The fold of a block by the reducer of joins: lines are put behind each other until they are too many.
-use Rattle.std.proofs.Common.{◌≡◌, ℕ, ◌+◌, ◌≤◌, ◌<◌, Bool, true, false, nat_lt, ◌||◌, None, List, [], ◌∷◌, ◌++◌, length, refl, sym, ap, ◌∙◌, arith, rules, tests, length-append}
+use Rattle.std.proofs.Common.{◌≡◌, ℕ, ◌+◌, ◌≤◌, ◌<◌, true, false, None, List, [], ◌∷◌, ◌++◌, length, refl, sym, ap, ◌∙◌, arith, rules, tests, length-append}
 use Rattle.swan_reducers.specs.declared.join_reducer.TheConstants.{JOIN_MOST}
-use Rattle.swan_reducers.specs.JoinLaws.{fitting_few, fitting_many, join_fitting, joined_not_long, long_is, long_right}
-use Rattle.swan_reducers.specs.Joins.{bytes_joined, fitting_part, is_too_long, line_part, passes, too_long}
+use Rattle.swan_reducers.specs.JoinLaws.{part_few, part_many, parts_join}
+use Rattle.swan_reducers.specs.Joins.{bytes_joined, bytes_part, line_part, passes, too_long}
 use Rattle.swan_reducers.specs.LineFolds.{bad_number, joined_lines}
 use Rattle.line_blocks.specs.LineBlocks.{later}
 
@@ -16,47 +16,42 @@ stays : (ls : List (List ℕ)) → joined_lines line_part bytes_joined too_long 
 stays [] = refl
 stays (line ∷ ls) = stays ls
 
--- short bytes and a short line are joined as they are, where they fit
-with_short : (whole line : List ℕ) → is_too_long whole ≡ false → length whole ≤ JOIN_MOST → is_too_long line ≡ false → bytes_joined whole (fitting_part line) ≡ fitting_part (whole ++ line)
-with_short whole line short few at = ap (λ v. bytes_joined v (fitting_part line)) (sym (fitting_few whole few)) ∙ join_fitting whole line short at
+-- the part of bytes that aren't too many
+pub record IsWhole (part : List ℕ) : Type 0 where
+  pub bytes : List ℕ
+  pub is : part ≡ 0 ∷ bytes
+  pub few : length bytes ≤ JOIN_MOST
 
-too_many : (whole line : List ℕ) → is_too_long whole ≡ false → length whole ≤ JOIN_MOST → passes whole line ≡ true → bytes_joined whole (fitting_part line) ≡ too_long
-too_many whole line short few is = by_case (is_too_long line) refl is
-  where
-    by_case : (b : Bool) → is_too_long line ≡ b → (b || nat_lt JOIN_MOST (length whole + length line)) ≡ true → bytes_joined whole (fitting_part line) ≡ too_long
-    by_case true long is = ap (λ v. bytes_joined whole (fitting_part v)) (long_is line long) ∙ long_right whole too_long refl
-    by_case false at is =
-        let many : JOIN_MOST < length whole + length line = search (rules, tests) in
-        let more : JOIN_MOST < length (whole ++ line) = omega (arith, many, length-append whole line) in
-        with_short whole line short few at ∙ fitting_many (whole ++ line) more
-
--- what a line is that doesn't pass the bound
-fits_so : (whole line : List ℕ) → passes whole line ≡ false → (is_too_long line ≡ false) × (length (whole ++ line) ≤ JOIN_MOST)
-fits_so whole line is = by_case (is_too_long line) is
-  where
-    by_case : (b : Bool) → (b || nat_lt JOIN_MOST (length whole + length line)) ≡ false → (b ≡ false) × (length (whole ++ line) ≤ JOIN_MOST)
-    by_case true is = absurd (cc)
-    by_case false is =
-        let fits : length whole + length line ≤ JOIN_MOST = search (rules, tests) in
-        (refl, omega (arith, fits, length-append whole line))
-
-pub keeps_short : (whole line : List ℕ) → is_too_long whole ≡ false → passes whole line ≡ false → is_too_long (whole ++ line) ≡ false
-keeps_short whole line short is = joined_not_long whole line short (fits_so whole line is).0
-
-pub keeps_few : (whole line : List ℕ) → passes whole line ≡ false → length (whole ++ line) ≤ JOIN_MOST
-keeps_few whole line is = (fits_so whole line is).1
-
-not_many : (whole line : List ℕ) → is_too_long whole ≡ false → length whole ≤ JOIN_MOST → passes whole line ≡ false → bytes_joined whole (fitting_part line) ≡ whole ++ line
-not_many whole line short few is =
-    let so = fits_so whole line is in
-    with_short whole line short few so.0 ∙ fitting_few (whole ++ line) so.1
+one_more : (part line : List ℕ) (whole : IsWhole part) → bytes_joined part (bytes_part line) ≡ bytes_part (whole.bytes ++ line)
+one_more part line whole =
+    ap (λ v. bytes_joined v (bytes_part line)) (whole.is ∙ sym (part_few whole.bytes whole.few)) ∙ parts_join whole.bytes line
 
 -- a line with which there are too many bytes ends the fold
-pub ends_long : (whole line : List ℕ) (ls : List (List ℕ)) → is_too_long whole ≡ false → length whole ≤ JOIN_MOST → passes whole line ≡ true
-    → joined_lines line_part bytes_joined whole (line ∷ ls) ≡ too_long
-ends_long whole line ls short few is = ap (λ v. joined_lines line_part bytes_joined v ls) (too_many whole line short few is) ∙ stays ls
+pub ends_long : (part line : List ℕ) (ls : List (List ℕ)) → IsWhole part → passes part line ≡ true → joined_lines line_part bytes_joined part (line ∷ ls) ≡ too_long
+ends_long part line ls whole is =
+    let many : JOIN_MOST + 1 < length part + length line = search (rules, tests) in
+    let more : JOIN_MOST < length (whole.bytes ++ line) = omega (arith, many, ap length whole.is, length-append whole.bytes line) in
+    ap (λ v. joined_lines line_part bytes_joined v ls) (one_more part line whole ∙ part_many (whole.bytes ++ line) more) ∙ stays ls
 
 -- any other line is put behind the bytes
-pub goes_on : (whole line : List ℕ) (ls : List (List ℕ)) → is_too_long whole ≡ false → length whole ≤ JOIN_MOST → passes whole line ≡ false
-    → joined_lines line_part bytes_joined whole (line ∷ ls) ≡ joined_lines line_part bytes_joined (whole ++ line) ls
-goes_on whole line ls short few is = ap (λ v. joined_lines line_part bytes_joined v ls) (not_many whole line short few is)
+pub keeps_whole : (part line : List ℕ) → IsWhole part → passes part line ≡ false → IsWhole (part ++ line)
+keeps_whole part line whole is =
+    let fits : length part + length line ≤ JOIN_MOST + 1 = search (rules, tests) in
+    record {
+      bytes = whole.bytes ++ line;
+      is = ap (λ v. v ++ line) whole.is;
+      few = omega (arith, fits, ap length whole.is, length-append whole.bytes line);
+    }
+
+pub goes_on : (part line : List ℕ) (ls : List (List ℕ)) → IsWhole part → passes part line ≡ false
+    → joined_lines line_part bytes_joined part (line ∷ ls) ≡ joined_lines line_part bytes_joined (part ++ line) ls
+goes_on part line ls whole is =
+    let now = keeps_whole part line whole is in
+    ap (λ v. joined_lines line_part bytes_joined v ls) (one_more part line whole ∙ part_few now.bytes now.few ∙ sym now.is)
+
+-- so few bytes are a record
+pub whole_few : (part : List ℕ) → IsWhole part → length part ≤ JOIN_MOST + 1
+whole_few part whole = omega (arith, whole.few, ap length whole.is)
+
+pub begins_whole : IsWhole (0 ∷ [])
+begins_whole = record { bytes = []; is = refl; few = omega arith }

@@ -34,10 +34,10 @@ pub fn sums_are_exact()
     ensures part { PART_BYTES ≡ 16 }
 {}
 
-/// The law that the fold of a text by the reducer of joins ends with the bytes of its lines, and by TooLong exactly where
+/// The law that the fold of lines by the reducer of joins ends with the bytes of the lines, and by TooLong exactly where
 /// they are more than `JOIN_MOST`, which is 65,535.
 pub fn joins_are_whole()
-    ensures whole { (reducer : JoinReducer) (text : List ℕ) → join_end (fold_of ⟦<JoinReducer as Reducer>⟧ reducer (lines text)) ≡ whole_text (all_bytes (lines text)) }
+    ensures whole { (reducer : JoinReducer) (ls : List (List ℕ)) → join_end (fold_of ⟦<JoinReducer as Reducer>⟧ reducer ls) ≡ whole_text (all_bytes ls) }
     ensures most { JOIN_MOST ≡ 65535 }
 {}
 

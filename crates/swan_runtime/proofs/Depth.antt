@@ -13,7 +13,7 @@ use Rattle.swan_model.specs.Elision.{serial}
 use Rattle.swan_model.specs.Rights.{is_aliased}
 use Rattle.swan_model.specs.Script.{script}
 use Rattle.swan_model.specs.SerialState.{Activation, Holding, Queue, State, Store}
-use Rattle.swan_model.specs.SerialStep.{Effect, state_after, effect, effect_of, ends, faults, given, goes_on, after_next, number_at, popped, spawn_effect, spawns, step_on}
+use Rattle.swan_model.specs.SerialStep.{Effect, state_after, effect, effect_of, ends, faults, given, goes_on, after_next, number_at, popped, spawn_effect, spawns, step_on, with_failed}
 use Rattle.swan_model.specs.SerialTime.{time}
 use Rattle.swan_model.specs.TrueFrames.{StandsAt}
 use Rattle.serial_elision.proofs.Asks.{if-either, on_object-either, on_queue-either}
@@ -61,6 +61,10 @@ abbrev AreShallow : {L : Type 0} → List (Activation L) → Type 0
 AreShallow [] = Unit {0}
 AreShallow (a ∷ below) = (length a.path ≤ PATH_MOST) × AreShallow below
 
+failed-shallow : {L : Type 0} (below : List (Activation L)) → AreShallow below → AreShallow (with_failed below)
+failed-shallow [] are = tt
+failed-shallow (parent ∷ below) are = are
+
 after-shallow : {L : Type 0} (s : State L) (top : Activation L) (below : List (Activation L)) (place : ℕ) (does : Deed) (done : Effect L) → FitsDeed top does done → IsShallow top done
     → AreShallow (top ∷ below) → AreShallow (state_after s below top.path place done).stack
 after-shallow s top below place does (goes_on a store) fits is are = (subst (λ p. length p ≤ PATH_MOST) (sym fits.0) are.0, are.1)
@@ -69,7 +73,7 @@ after-shallow s top below place does (spawns parent child store) fits is are = (
   (subst (λ p. length p ≤ PATH_MOST) (sym fits.0) are.0, are.1),
 )
 after-shallow s top below place does ends fits is are = are.1
-after-shallow s top below place does (faults kind) fits is are = are.1
+after-shallow s top below place does (faults kind) fits is are = failed-shallow below are.1
 
 module _ {B L : Type 0} (G : Ghosts B L) (plan : Plan B L) where
   step-shallow : (n : ℕ) (store : Store) (top : Activation L) → IsShallow top (effect_of G plan.body n store top)

@@ -12,7 +12,8 @@ use Rattle.swan_model.specs.TrueFrames.{StandsAt, effect_at, state_at}
 use Rattle.swan_model.proofs.ScriptSteps.{deed_is}
 use Rattle.serial_elision.proofs.Endings.{entry_now}
 use Rattle.serial_elision.proofs.FewHeld.{LeavesLess, step-less}
-use Rattle.serial_elision.proofs.TaskSteps.{spawns_child, stands-one, stood-before, top_path}
+use Rattle.serial_elision.proofs.Onward.{stood-before}
+use Rattle.serial_elision.proofs.TaskSteps.{spawns_child, stands-one, top_path}
 use Rattle.serial_elision.proofs.Turns.{FitsDeed, next_deed, step-fits}
 
 module _ {B L : Type 0} (G : Ghosts B L) (plan : Plan B L) where
@@ -37,8 +38,9 @@ module _ {B L : Type 0} (G : Ghosts B L) (plan : Plan B L) where
       let less : next.fuel < stood.before.fuel = elim stood.effect [
         | inl goes ↦ goes-less path k stood.before next stood.store goes
         | inr made ↦
-            let both = spawn-less path k stood.before next made.0 stood.store made.1 in
-            omega (arith, both)
+            let both = spawn-less path k stood.before made.0 made.1 stood.store made.2 in
+            let same_fuel : next.fuel ≡ made.0.fuel = ap (λ (a : Activation L). a.fuel) made.3 in
+            omega (arith, both, same_fuel)
       ] in
       subst (λ (a : Activation L). next.fuel < a.fuel) same less
 
@@ -82,13 +84,15 @@ module _ {B L : Type 0} (G : Ghosts B L) (plan : Plan B L) where
             let no : true ≡ false = sym is-spawn ∙ ap is_spawn is ∙ here.2 in
             absurd (cc)
         | inr made ↦
-            let here : FitsDeed stood.before does (spawns parent made.0 stood.store) = subst (FitsDeed stood.before does) made.1 fits in
+            let here : FitsDeed stood.before does (spawns made.0 made.1 stood.store) = subst (FitsDeed stood.before does) made.2 fits in
             let own = top_path G plan path k stood.before stood.stands in
-            let child-path : made.0.path ≡ path ++ top.children ∷ [] =
+            let child-path : made.1.path ≡ path ++ top.children ∷ [] =
             here.2 ∙ ap (λ p. p ++ stood.before.children ∷ []) own.1 ∙ ap (λ (a : Activation L). path ++ a.children ∷ []) same in
-            let first = spawns_child G plan path k stood.before stood.stands parent made.0 stood.store made.1 in
-            let one = stands-one G plan (path ++ top.children ∷ []) 0 made.0 child (subst (λ p. StandsAt G plan p 0 made.0) child-path first) begins in
-            let both = spawn-less path k stood.before parent made.0 stood.store made.1 in
-            subst (λ (a : Activation L). parent.fuel + a.fuel < stood.before.fuel) one both
+            let first = spawns_child G plan path k stood.before stood.stands made.0 made.1 stood.store made.2 in
+            let one = stands-one G plan (path ++ top.children ∷ []) 0 made.1 child (subst (λ p. StandsAt G plan p 0 made.1) child-path first) begins in
+            let both = spawn-less path k stood.before made.0 made.1 stood.store made.2 in
+            let same_fuel : parent.fuel ≡ made.0.fuel = ap (λ (a : Activation L). a.fuel) made.3 in
+            let less : made.0.fuel + child.fuel < stood.before.fuel = subst (λ (a : Activation L). made.0.fuel + a.fuel < stood.before.fuel) one both in
+            omega (arith, less, same_fuel)
       ] in
       subst (λ (a : Activation L). parent.fuel + child.fuel < a.fuel) same less

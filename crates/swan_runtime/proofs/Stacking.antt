@@ -10,6 +10,7 @@ use Rattle.task_frames.specs.Cores.{CoreView, KeptView}
 use Rattle.task_frames.specs.Frames.{FrameView}
 use Rattle.task_frames.specs.Records.{LiveFrame, live_at}
 use Rattle.task_frames.specs.Resumes.{EndsOf, HasNone, IsGivenBy, OthersKept}
+use Rattle.task_frames.proofs.AsGiven.{WasGiven, was-given}
 use Rattle.swan_runtime.specs.Stacks.{AreStacked, IsAbove, IsOn, IsStack}
 use Rattle.swan_model.proofs.Paths.{not_below-itself}
 
@@ -49,16 +50,17 @@ module _ {B L E : Type 0} (of : EndsOf E) where
     still-given IsOther stay now keeps plan run a given other =
         let others = stay given.kept given.keeps now keeps in
         let recorded = given.given.lent in
+        let there = was-given now.live given.kept.live a.task.number given.given.of.frame (sym (others.live a.task.number other)) given.given.of.live in
         record {
           kept = now;
           keeps = keeps;
           given = record {
             of = record {
-              frame = given.given.of.frame;
-              live = others.live a.task.number other ∙ given.given.of.live;
-              path = given.given.of.path;
-              done = given.given.of.done;
-              holdings = given.given.of.holdings;
+              frame = there.was;
+              live = there.live;
+              path = ap (λ (f : LiveFrame). f.path) there.same ∙ given.given.of.path;
+              done = ap (λ (f : LiveFrame). f.done) there.same ∙ given.given.of.done;
+              holdings = ap (λ (f : LiveFrame). f.holdings) there.same ∙ given.given.of.holdings;
             };
             lent = record {
               frame = recorded.frame;
@@ -143,8 +145,12 @@ module _ {B L E : Type 0} (of : EndsOf E) where
       nested = below-nested core stack top is.stacked;
     }
 
-    others-were : (IsOther : ℕ → Type 0) → OthersKept core after IsOther → (number : ℕ) → IsOther number → (live : LiveFrame) → live_at now.live number ≡ Some live → live_at is.kept.live number ≡ Some live
-    others-were IsOther stay number other live stands = sym ((stay is.kept is.keeps now keeps).live number other) ∙ stands
+    others-were : (IsOther : ℕ → Type 0) → OthersKept core after IsOther → (number : ℕ) → IsOther number → (live : LiveFrame) → live_at now.live number ≡ Some live → WasGiven is.kept.live number live
+    others-were IsOther stay number other live stands = was-given is.kept.live now.live number live ((stay is.kept is.keeps now keeps).live number other) stands
+
+    -- so it is a frame of the stack
+    others-on : (IsOther : ℕ → Type 0) → OthersKept core after IsOther → (number : ℕ) → IsOther number → (live : LiveFrame) → live_at now.live number ≡ Some live → IsOn (stack ++ top ∷ []) number
+    others-on IsOther stay number other live stands = let before = others-were IsOther stay number other live stands in is.all number before.was before.live
 
     -- it goes on
     pub after-runs : (next : FrameView B L E) → next.task.number ≡ top.task.number → next.task.path ≡ top.task.path → IsGivenBy of after next
@@ -160,7 +166,7 @@ module _ {B L E : Type 0} (of : EndsOf E) where
         | inr apart ↦
             let other : n ≢ top.task.number = λ e. let no : true ≡ false = sym (eq-eqb n top.task.number e) ∙ apart in absurd (cc) in
             on-more after stack next n
-            (on-cases core stack top n (is.all n live (others-were (λ o. o ≢ top.task.number) stay n other live stands)) other)
+            (on-cases core stack top n (others-on (λ o. o ≢ top.task.number) stay n other live stands) other)
       ];
     }
 
@@ -172,7 +178,7 @@ module _ {B L E : Type 0} (of : EndsOf E) where
       stacked = below-after (λ other. other ≢ top.task.number) stay (below-other core stack top is.stacked);
       all = λ n live stands.
           let other : n ≢ top.task.number = λ e. let no : None ≡ Some live = sym (none now keeps) ∙ ap (live_at now.live) (sym e) ∙ stands in absurd (cc) in
-          on-cases core stack top n (is.all n live (others-were (λ o. o ≢ top.task.number) stay n other live stands)) other;
+          on-cases core stack top n (others-on (λ o. o ≢ top.task.number) stay n other live stands) other;
     }
 
     -- it has spawned a child
@@ -212,7 +218,7 @@ module _ {B L E : Type 0} (of : EndsOf E) where
                   | inr far ↦
                       let not_top : n ≢ top.task.number = λ e. let no : true ≡ false = sym (eq-eqb n top.task.number e) ∙ far in absurd (cc) in
                       on-more after stack parent n
-                      (on-cases core stack top n (is.all n live (others-were IsOther stay n (not_top, not_child) live stands)) not_top)
+                      (on-cases core stack top n (others-on IsOther stay n (not_top, not_child) live stands) not_top)
                 ])
           ];
         }
@@ -231,13 +237,13 @@ module _ {B L E : Type 0} (of : EndsOf E) where
           (ap (comes_before top.task.path) (append-nil top.task.path) ∙ ap (λ p. comes_before p top.task.path) (sym it) ∙ before)
       | inr apart ↦
           let other : number ≢ top.task.number = λ e. let no : true ≡ false = sym (eq-eqb number top.task.number e) ∙ apart in absurd (cc) in
-          let on = on-cases core stack top number (is.all number live (others-were (λ o. o ≢ top.task.number) stay number other live stands)) other in
+          let was = others-were (λ o. o ≢ top.task.number) stay number other live stands in
+          let on = on-cases core stack top number (is.all number was.was was.live) other in
           let there = below-given core stack top is.stacked on.index on.frame on.stands in
           let kept : there.kept ≡ is.kept = same_Some there.kept is.kept (sym there.keeps ∙ is.keeps) in
-          let both : Some there.given.of.frame ≡ Some live =
-          sym there.given.of.live ∙ ap (λ (k : KeptView). live_at k.live on.frame.task.number) kept ∙ ap (live_at is.kept.live) on.same
-          ∙ others-were (λ o. o ≢ top.task.number) stay number other live stands in
-          let path-is : on.frame.task.path ≡ live.path = sym there.given.of.path ∙ ap (λ (f : LiveFrame). f.path) (same_Some _ _ both) in
+          let both : Some there.given.of.frame ≡ Some was.was =
+          sym there.given.of.live ∙ ap (λ (k : KeptView). live_at k.live on.frame.task.number) kept ∙ ap (live_at is.kept.live) on.same ∙ was.live in
+          let path-is : on.frame.task.path ≡ live.path = sym there.given.of.path ∙ ap (λ (f : LiveFrame). f.path) (same_Some _ _ both) ∙ ap (λ (f : LiveFrame). f.path) was.same in
           not_before on.frame.task.path top.task.path (below-top core stack top is.stacked on.index on.frame on.stands)
           (ap (λ p. comes_before p top.task.path) path-is ∙ before)
     ]

@@ -29,9 +29,9 @@ mod worker_turns;
 
 pub use alone::run_alone;
 pub use laws::turns_are_few;
-pub use limits::limit_of_rings;
+pub use limits::limits_of_shapes;
 pub use opening::{close, open};
-pub use shape::{Shape, WORKERS_MOST};
+pub use shape::{RING_MOST, Shape, WORKERS_MOST};
 pub use threads::run;
 pub use turn::Turn;
 pub use worker::Worker;

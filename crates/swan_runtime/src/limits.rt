@@ -1,9 +1,10 @@
-// The limit of rings, with its number.
+// The limits of shapes, with their numbers.
 ghost use Rattle.std.specs.Prelude.{◌≡◌};
-ghost use Rattle.swan_runtime.specs.declared.shape.TheConstants.{RING_MOST};
+ghost use Rattle.swan_runtime.specs.declared.shape.TheConstants.{RING_MOST, WORKERS_MOST};
 
-/// The law that says of the longest ring of a shape which number it is. The definition of shapes names it, so without it
-/// another number would change which shapes there are.
-pub fn limit_of_rings()
-    ensures { RING_MOST ≡ 4096 }
+/// The law that says of the most workers and of the longest ring of a shape which numbers they are. The definition of shapes
+/// names them, so without it other numbers would change which shapes there are.
+pub fn limits_of_shapes()
+    ensures workers { WORKERS_MOST ≡ 256 }
+    ensures ring { RING_MOST ≡ 4096 }
 {}

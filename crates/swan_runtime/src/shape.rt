@@ -3,7 +3,7 @@ ghost use Rattle.std.specs.Prelude.{◌≡◌, ◌≤◌, IfSome, IfNone};
 ghost use Rattle.swan_runtime.specs.Workers.{IsShape};
 
 /// The most workers that a run may have.
-pub const WORKERS_MOST: u32 = 64;
+pub const WORKERS_MOST: u32 = 256;
 
 /// The longest ring that an end of a queue may have.
 pub const RING_MOST: u32 = 4096;
@@ -17,8 +17,8 @@ pub struct Shape {
 }
 
 impl Shape {
-    /// So many workers, of which there are 1 to `WORKERS_MOST`, and rings of 1 to 4,096 items, as the law `limit_of_rings` says. None comes exactly
-    /// where one of them is not within its limits. It takes no memory. `O(1)`.
+    /// So many workers, of which there are 1 to `WORKERS_MOST`, and rings of 1 to `RING_MOST` items. None comes exactly where
+    /// one of them is not within its limits. It takes no memory. `O(1)`.
     pub fn new(workers: u32, ring: u32) -> Option<Shape>
         ensures some { IfSome result (λ shape. (shape.workers ≡ workers) × (shape.ring ≡ ring)) }
         ensures none { IfNone result (¬ IsShape workers ring) }

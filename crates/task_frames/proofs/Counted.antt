@@ -12,10 +12,11 @@ use Rattle.swan_model.specs.Granted.{is_spawn}
 use Rattle.swan_model.specs.SerialTime.{time}
 use Rattle.swan_model.specs.Told.{deed_at}
 use Rattle.serial_elision.specs.Caught.{children_by, children_by_sync, failed_children, has_failed}
+use Rattle.serial_elision.proofs.Caught.{failed-none, synced-before}
 use Rattle.task_frames.specs.Cores.{AreCounted, IsSpawnedSince}
 use Rattle.task_frames.specs.Records.{AreGivenSo, HasNoLiveChild, HasOneFailed, IsOnlyLive, LiveFrame, NumberedFrames, as_given, live_at, synced_at, with_failed_child}
 use Rattle.task_frames.proofs.AsGiven.{WasGiven, one-failed-given, was-given}
-use Rattle.task_frames.proofs.Failing.{IsStill, children-more, children-stay, count-last, count-none, count-one, count-same, failed-more, failed-still, no-sync, synced-few, synced-now, synced-stay}
+use Rattle.task_frames.proofs.Failing.{IsStill, children-more, children-stay, count-last, count-one, count-same, failed-more, failed-still, no-sync, synced-now, synced-stay}
 
 -- ---- the steps of a frame
 
@@ -82,7 +83,7 @@ module _ (s : Script) (live : NumberedFrames) (faults : List Fault) (are : AreCo
         let children : children_by s f.path (k + 1) ≡ children_by s f.path k = children-stay s f.path k deed.Sync (ap (λ q. deed_at s (time s q k)) path_is ∙ does) refl in
         let since : children_by_sync s f.path (k + 1) ≡ children_by s f.path k = synced-now s f.path k (ap (λ q. deed_at s (time s q k)) path_is ∙ does) in
         changed (synced_at (k + 1) f) only refl refl
-        (sym (count-none faults f.path (children_by_sync s f.path (k + 1)) (children_by s f.path (k + 1)) (omega (arith, children, since))))
+        (sym (failed-none faults f.path (children_by_sync s f.path (k + 1)) (children_by s f.path (k + 1)) (omega (arith, children, since))))
         (λ m child at of before. absurd (alone m (record { frame = child; live = at; of = of })))
 
     -- it spawns a child, of which no fault is booked
@@ -130,7 +131,7 @@ module _ (s : Script) (live : NumberedFrames) (faults : List Fault) (are : AreCo
             subst (λ (x : LiveFrame). IsSpawnedSince s x.path x.done below.path) parent (subst (λ (x : LiveFrame). IsSpawnedSince s f.path (k + 1) x.path) it (record {
               index = children_by s f.path k;
               own = child-path;
-              since = omega (arith, still, synced-few s f.path k);
+              since = omega (arith, still, synced-before s f.path k);
               spawned = omega (arith, more);
             }))
         | inr old ↦

@@ -29,7 +29,7 @@ use Rattle.serial_elision.specs.TaskSteps.{IsFaultOf}
 use Rattle.task_frames.proofs.AsGiven.{WasGiven, one-failed-given, others-given, was-given}
 use Rattle.task_frames.proofs.Booked as booked
 use Rattle.task_frames.proofs.Counted as counted
-use Rattle.task_frames.proofs.Failing.{failed-none}
+use Rattle.task_frames.proofs.Failing.{never-failed}
 use Rattle.task_frames.proofs.Goings.{known, lawful}
 use Rattle.task_frames.proofs.Live as live
 use Rattle.task_frames.proofs.Objects as objects
@@ -107,7 +107,7 @@ module _ {B L : Type 0} (G : Ghosts B L) (kept : KeptView) (frame : FrameAtCoreV
     counted-fault between then_live fault path one only =
         counted.failed s kept.live kept.faults has.core.counted then_live task.number has.of.frame has.of.live between (kept.faults ++ fault ∷ []) fault (path ∙ sym has.of.path)
         (ap (has_failed kept.faults) has.of.path
-        ∙ failed-none kept.faults task.path (booked.fresh G task.plan kept.reading task.number task.path task.done (known G kept frame has) has.core.queues.fit.tasks kept.faults has.core.booked has.is.alone.stands.left))
+        ∙ never-failed kept.faults task.path (booked.fresh G task.plan kept.reading task.number task.path task.done (known G kept frame has) has.core.queues.fit.tasks kept.faults has.core.booked has.is.alone.stands.left))
         refl one only
         (λ m i above at own_path.
         waiting.parent-is G task.plan (lawful G kept frame has) kept.reading kept.state kept.turns kept.live kept.frames has.core.queues has.core.frames m above at task.number i has.of.frame has.of.live own_path)

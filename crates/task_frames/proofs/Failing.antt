@@ -1,7 +1,6 @@
 -- How many of a task's children failed, by faults: what one fault more changes of it, and what each step of the task.
 use Rattle.std.proofs.Common.{◌≡◌, ◌≢◌, inl, inr, ℕ, zero, suc, ◌+◌, ◌<◌, ◌≤◌, ◌&&◌, Bool, true, false, cond, nat_eq, nat_le, List, [], ◌∷◌, ◌++◌, Some, refl, sym, ap, subst, ◌∙◌, arith}
 use Rattle.std.proofs.lemmas.Bool.{cases_eq, cases_lt, false_from_ne_true, le-leb, lt-leb}
-use Rattle.std.proofs.lemmas.Map.Keys.{any_passes_from_place}
 use Rattle.std.specs.Cmp.Lexicographic.{pointwise}
 use Rattle.std.specs.Prelude.{slice_get}
 use Rattle.swan_model.specs.declared.fault.Fault.{Fault}
@@ -11,9 +10,10 @@ use Rattle.swan_model.specs.declared.script.Script.{Script}
 use Rattle.swan_model.specs.Granted.{is_spawn}
 use Rattle.swan_model.specs.SerialTime.{time}
 use Rattle.swan_model.specs.Told.{deed_at}
-use Rattle.swan_model.proofs.Elements.{any_before, any_found, any_last}
+use Rattle.swan_model.proofs.Elements.{any_before, any_last}
 use Rattle.swan_model.proofs.Paths.{path_is-itself, same_path}
 use Rattle.serial_elision.specs.Caught.{children_by, children_by_sync, failed_children, has_failed, is_sync}
+use Rattle.serial_elision.proofs.Onward.{failed-from}
 use Rattle.task_frames.specs.Frames.{AreLocal}
 use Rattle.task_frames.proofs.CatchUp.{local-passes}
 
@@ -22,19 +22,9 @@ use Rattle.task_frames.proofs.CatchUp.{local-passes}
 abbrev is_of : List ℕ → Fault → Bool
 is_of path fault = pointwise nat_eq fault.path path
 
--- a task failed exactly where one of the faults is its own
-pub failed-by : (faults : List Fault) (path : List ℕ) → has_failed faults path ≡ true → (i : ℕ) × (fault : Fault) × (slice_get faults i ≡ Some fault) × (fault.path ≡ path)
-failed-by faults path is =
-    let found = any_found (is_of path) faults is in
-    (found.1.index, found.0, found.1.stands, same_path found.0.path path found.1.passes)
-
-pub failed-so : (faults : List Fault) (path : List ℕ) (i : ℕ) (fault : Fault) → slice_get faults i ≡ Some fault → fault.path ≡ path → has_failed faults path ≡ true
-failed-so faults path i fault at own =
-    any_passes_from_place (is_of path) faults i fault at (ap (λ q. pointwise nat_eq q path) own ∙ path_is-itself path)
-
-pub failed-none : (faults : List Fault) (path : List ℕ) → ((i : ℕ) (fault : Fault) → slice_get faults i ≡ Some fault → fault.path ≢ path) → has_failed faults path ≡ false
-failed-none faults path none =
-    false_from_ne_true (has_failed faults path) (λ is. let found = failed-by faults path is in none found.0 found.1 found.2 found.3)
+pub never-failed : (faults : List Fault) (path : List ℕ) → ((i : ℕ) (fault : Fault) → slice_get faults i ≡ Some fault → fault.path ≢ path) → has_failed faults path ≡ false
+never-failed faults path none =
+    false_from_ne_true (has_failed faults path) (λ is. let found = failed-from faults path is in none found.0 found.1 found.2 found.3)
 
 -- by two lists of faults the same tasks failed where each has a fault of a task of which the other one has one
 pub failed-alike : (faults other : List Fault) (path : List ℕ) → (has_failed faults path ≡ true → has_failed other path ≡ true) → (has_failed other path ≡ true → has_failed faults path ≡ true)
@@ -107,14 +97,7 @@ count-last faults path from to none =
     by true = refl
     by false = refl
 
--- none, where there are none
-pub count-none : (faults : List Fault) (path : List ℕ) (from to : ℕ) → to ≤ from → failed_children faults path from to ≡ 0
-count-none faults path from zero few = refl
-count-none faults path from (suc i) few =
-    ap (λ b. cond (b && has_failed faults (path ++ i ∷ [])) (failed_children faults path from i + 1) (failed_children faults path from i)) (lt-leb from i (omega (arith, few)))
-    ∙ count-none faults path from i (omega (arith, few))
-
--- and no more than there are
+-- no more than there are
 pub count-few : (faults : List Fault) (path : List ℕ) (from to : ℕ) → failed_children faults path from to ≤ to
 count-few faults path from zero = omega arith
 count-few faults path from (suc i) = by (nat_le from i && has_failed faults (path ++ i ∷ [])) (count-few faults path from i) where
@@ -125,27 +108,13 @@ count-few faults path from (suc i) = by (nat_le from i && has_failed faults (pat
 -- ---- which of them there are
 
 module _ (s : Script) (path : List ℕ) where
-  -- a task spawns at most one child with each step, and those before its last Sync are among them
+  -- a task spawns at most one child with each step
   pub children-few : (k : ℕ) → children_by s path k ≤ k
   children-few zero = omega arith
   children-few (suc k) = by (is_spawn (deed_at s (time s path k))) (children-few k) where
     by : (b : Bool) → children_by s path k ≤ k → cond b (children_by s path k + 1) (children_by s path k) ≤ suc k
     by true few = omega (arith, few)
     by false few = omega (arith, few)
-
-  children-rise : (k : ℕ) → children_by s path k ≤ children_by s path (suc k)
-  children-rise k = by (is_spawn (deed_at s (time s path k))) where
-    by : (b : Bool) → children_by s path k ≤ cond b (children_by s path k + 1) (children_by s path k)
-    by true = omega arith
-    by false = omega arith
-
-  pub synced-few : (k : ℕ) → children_by_sync s path k ≤ children_by s path k
-  synced-few zero = omega arith
-  synced-few (suc k) = by (is_sync (deed_at s (time s path k))) (synced-few k) (children-rise k) where
-    by : (b : Bool) → children_by_sync s path k ≤ children_by s path k → children_by s path k ≤ children_by s path (suc k)
-        → cond b (children_by s path k) (children_by_sync s path k) ≤ children_by s path (suc k)
-    by true few rise = rise
-    by false few rise = omega (arith, few, rise)
 
   -- what one step changes of it
   pub children-stay : (k : ℕ) (does : Deed) → deed_at s (time s path k) ≡ does → is_spawn does ≡ false → children_by s path (k + 1) ≡ children_by s path k

@@ -210,6 +210,12 @@ pub nobody-left : (before after : NumberedFrames) (pairs : List NumberPair) (num
 nobody-left before after pairs number kept only none =
     left_root_keeps before after pairs number kept only (λ parent child. let both : None ≡ Some child.frame = sym none ∙ child.live in absurd (cc))
 
+-- a frame that is changed and stays the child of the same parent, where there is one
+pub changed-keeps : (change : LiveFrame → LiveFrame) → ((f : LiveFrame) → (change f).parent ≡ f.parent) → (before after : NumberedFrames) (pairs : List NumberPair) (number : ℕ) (found : Option LiveFrame)
+    → live_at before number ≡ found → HasChildren before pairs → IsOnlyLive before after number (option_map change found) → HasChildren after pairs
+changed-keeps change same before after pairs number None none kept only = nobody-left before after pairs number kept only none
+changed-keeps change same before after pairs number (Some was) there kept only = changed_keeps before after pairs number kept was (change was) there only (same was)
+
 -- a frame that may hold one place more, where there is one
 pub held-keeps : {T E : Type 0} (before after : NumberedFrames) (pairs : List NumberPair) (number : ℕ) (holding : Holding) (found : Option LiveFrame) (result : Result T E) → live_at before number ≡ found → HasChildren before pairs
     → OnOk result (IsOnlyLive before after number (option_map (holding_too holding) found)) → OnErr result (IsOnlyLive before after number found) → HasChildren after pairs

@@ -23,7 +23,8 @@ use Rattle.swan_model.specs.TrueFrames.{StandsAt, effect_at, gives_at, state_at}
 use Rattle.swan_model.proofs.ScriptSteps.{deed_is}
 use Rattle.serial_elision.proofs.Endings.{entry_now}
 use Rattle.serial_elision.proofs.NamesStay.{names-stay}
-use Rattle.serial_elision.proofs.TaskSteps.{stands-one, stood-before}
+use Rattle.serial_elision.proofs.Onward.{stood-before}
+use Rattle.serial_elision.proofs.TaskSteps.{stands-one}
 use Rattle.task_frames.specs.Frames.{AreLocal, is_local}
 
 -- an effect after which the task, where it goes on, holds this

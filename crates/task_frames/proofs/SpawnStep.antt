@@ -41,7 +41,8 @@ use Rattle.serial_elision.proofs.Caught.{children-counted}
 use Rattle.serial_elision.proofs.AskMakes.{aliased, spawns-child, too-dear, too-deep}
 use Rattle.serial_elision.proofs.FewHeld.{given-many}
 use Rattle.serial_elision.proofs.Held.{used-at}
-use Rattle.serial_elision.proofs.TaskSteps.{spawns_child, spawns_next, top_path}
+use Rattle.serial_elision.proofs.Onward.{spawns_next}
+use Rattle.serial_elision.proofs.TaskSteps.{spawns_child, top_path}
 use Rattle.task_frames.specs.declared.stage.Stage.TheVariants.{Ready}
 use Rattle.task_frames.specs.declared.step.Step.{Step}
 use Rattle.task_frames.specs.declared.step.Step.TheVariants as step
@@ -53,7 +54,7 @@ use Rattle.task_frames.specs.Resumes.{EndsTaskByFault, IsStep}
 use Rattle.task_frames.proofs.Asked.{ends-by}
 use Rattle.task_frames.proofs.Booked as booked
 use Rattle.task_frames.proofs.Counted as counted
-use Rattle.task_frames.proofs.Failing.{failed-none}
+use Rattle.task_frames.proofs.Failing.{never-failed}
 use Rattle.task_frames.proofs.FewFrames.{room-for-frame}
 use Rattle.task_frames.proofs.Giving.{giving-starts}
 use Rattle.task_frames.proofs.GoneOn.{child-spawned, with-child}
@@ -314,7 +315,7 @@ module _ {B L : Type 0} (G : Ghosts B L) (kept : KeptView) (mid : Mid B L) (chil
           -- no fault of the child is booked, since it has an entry left
           unfailed : has_failed kept.faults (task.path ++ task.children ∷ []) ≡ false
           unfailed =
-              failed-none kept.faults (task.path ++ task.children ∷ [])
+              never-failed kept.faults (task.path ++ task.children ∷ [])
               (booked.fresh G plan (with-child kept.reading n new-frame) kept.frames (task.path ++ task.children ∷ []) 0
               (child-spawned kept.reading n new-frame (spawning.next-unread G plan kept.reading kept.state kept.live kept.frames has.core.frames) other-number)
               queues-then.fit.tasks kept.faults booked-then child-stands.left)

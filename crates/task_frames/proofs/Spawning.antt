@@ -32,7 +32,8 @@ use Rattle.queues.proofs.Lineage.{spawns_by}
 use Rattle.serial_elision.specs.Caught.{once_ended}
 use Rattle.serial_elision.specs.TaskSteps.{Spawns, child_activation, parent_activation}
 use Rattle.serial_elision.proofs.Room.{children-told, room-children}
-use Rattle.serial_elision.proofs.TaskSteps.{spawns_child, spawns_next, top_path}
+use Rattle.serial_elision.proofs.Onward.{spawns_next}
+use Rattle.serial_elision.proofs.TaskSteps.{spawns_child, top_path}
 use Rattle.task_frames.specs.Cores.{HasQueuesOnce, AreBooked, AreFrames, AreObjects, AreQueues}
 use Rattle.object_versions.specs.Following.{WaitsForNone}
 use Rattle.task_frames.specs.Frames.{IsPlan}

@@ -1,5 +1,5 @@
 -- A frame at the core that takes a Sync: what it is told of its failed children is what the elision tells it.
-use Rattle.std.proofs.Common.{◌≡◌, inl, inr, ℕ, ◌+◌, ◌<◌, nat_eq, List, [], ◌∷◌, ◌++◌, Some, length, refl, sym, ap, subst, ◌∙◌, arith}
+use Rattle.std.proofs.Common.{◌≡◌, inl, inr, ℕ, ◌+◌, ◌<◌, true, nat_eq, List, [], ◌∷◌, ◌++◌, Some, length, refl, sym, ap, subst, ◌∙◌, arith}
 use Rattle.std.proofs.lemmas.Option.{same_Some}
 use Rattle.std.specs.Option.{option_map}
 use Rattle.std.specs.Prelude.{slice_get}
@@ -26,6 +26,7 @@ use Rattle.serial_elision.specs.Caught.{children_by, children_by_sync, failed_ch
 use Rattle.serial_elision.specs.TaskSteps.{Syncs}
 use Rattle.serial_elision.proofs.Caught.{children-counted, failed-counted}
 use Rattle.serial_elision.proofs.FaultsTold.{fault-booked, fault-of}
+use Rattle.serial_elision.proofs.Onward.{failed-at, failed-from}
 use Rattle.serial_elision.proofs.Room.{children-told}
 use Rattle.task_frames.specs.declared.stage.Stage.TheVariants.{Ready}
 use Rattle.task_frames.specs.declared.step.Step.TheVariants as step
@@ -33,7 +34,7 @@ use Rattle.task_frames.specs.Cores.{FrameAtCoreView, HasEnded, HasIt, KeptView, 
 use Rattle.task_frames.specs.Frames.{TaskView}
 use Rattle.task_frames.specs.Records.{HasNoLiveChild, IsOnlyLive, LiveFrame, live_at, synced_at}
 use Rattle.task_frames.specs.Resumes.{IsStep}
-use Rattle.task_frames.proofs.Failing.{count-same, failed-alike, failed-by, failed-so}
+use Rattle.task_frames.proofs.Failing.{count-same, failed-alike}
 use Rattle.task_frames.proofs.Goings.{done-is, known, lawful, runs-synced}
 use Rattle.task_frames.proofs.MayEnd.{none-active}
 use Rattle.task_frames.proofs.Waiting.{active-child}
@@ -104,13 +105,13 @@ module _ {B L : Type 0} (G : Ghosts B L) (kept : KeptView) (mid : Mid B L) (has 
       let path = task.path ++ i ∷ [] in
       failed-alike kept.faults (outcome G plan).faults path
       (λ is.
-      let found = failed-by kept.faults path is in
+      let found = failed-from kept.faults path is in
       let there = fault-booked G plan found.1 (has.core.booked.only found.0 found.1 found.2).0 in
-      failed-so (outcome G plan).faults path there.0 found.1 there.1 found.3)
+      subst (λ q. has_failed (outcome G plan).faults q ≡ true) found.3 (failed-at (outcome G plan).faults there.0 found.1 there.1))
       (λ is.
-      let found = failed-by (outcome G plan).faults path is in
+      let found = failed-from (outcome G plan).faults path is in
       let there = has.core.booked.all found.1 (fault-of G plan found.0 found.1 found.2) (subst (HasEnded G plan kept.reading) (sym found.3) (child-ended i less)) in
-      failed-so kept.faults path there.0 found.1 there.1 found.3)
+      subst (λ q. has_failed kept.faults q ≡ true) found.3 (failed-at kept.faults there.0 found.1 there.1))
 
   -- the frame has as many failed children as its task
   caught-so : f.failed ≡ top.failed

@@ -19,7 +19,7 @@ use Rattle.whole_runs.proofs.WholeSteps.{pops, tests_empty, spawns_child}
 
 -- the task of a child
 abbrev pub begun : {L : Type 0} → List ℕ → Child L → List Holding → Activation L
-begun path child holdings = record { path = path; local = child.local; answer = answer.Start; fuel = child.fuel; holdings = holdings; children = 0 }
+begun path child holdings = record { path = path; local = child.local; answer = answer.Start; fuel = child.fuel; holdings = holdings; children = 0; failed = 0 }
 
 -- A child that is given what its parent holds, and runs whole over contents of this shape. `W` is what the contents are
 -- beside the queue that is read.
@@ -95,51 +95,51 @@ module _ {B L S W : Type 0} {G : Ghosts B L} {body : B} (r : Reader G body S W) 
   spent s [] = 0
   spent s (x ∷ xs) = 2 + cost (r.gives s x) + spent (r.keeps s x) xs
 
-  abbrev pub reading : L → Answer → ℕ → ℕ → Activation L
-  reading local told fuel children = record { path = r.path; local = local; answer = told; fuel = fuel; holdings = r.holdings; children = children }
+  abbrev pub reading : L → Answer → ℕ → ℕ → ℕ → Activation L
+  reading local told fuel children failed = record { path = r.path; local = local; answer = told; fuel = fuel; holdings = r.holdings; children = children; failed = failed }
 
-  -- what is to be shown after the loop
+  -- what is to be shown after the loop, for whatever number of failed children
   abbrev pub Rest : S → List Value → W → ℕ → ℕ → Contents → List Fault → Type 0
   Rest s items w fuel children after_it more =
-      (left kids : ℕ) → left + spent s items ≡ fuel → kids ≡ children + number_made s items
-      → RunsWhole G body (reading (r.test (last s items)) (answer.Flag true) left kids) (r.shape [] (made s items w)) after_it more
+      (left kids failed : ℕ) → left + spent s items ≡ fuel → kids ≡ children + number_made s items
+      → RunsWhole G body (reading (r.test (last s items)) (answer.Flag true) left kids failed) (r.shape [] (made s items w)) after_it more
 
-  tested : (s : S) (local : L) (told : Answer) (xs : List Value) (w : W) (fuel children : ℕ) (after_it : Contents) (fs : List Fault) → 0 < fuel → G.next body local told (fuel - 1) ≡ (r.test s, ask.Empty r.place)
-      → RunsWhole G body (reading (r.test s) (answer.Flag (is_nothing_left xs)) (fuel - 1) children) (r.shape xs w) after_it fs → RunsWhole G body (reading local told fuel children) (r.shape xs w) after_it fs
-  tested s local told xs w fuel children after_it fs paid is rest = tests_empty G paid is r.held (r.stands xs w) rest
+  tested : (s : S) (local : L) (told : Answer) (xs : List Value) (w : W) (fuel children failed : ℕ) (after_it : Contents) (fs : List Fault) → 0 < fuel → G.next body local told (fuel - 1) ≡ (r.test s, ask.Empty r.place)
+      → RunsWhole G body (reading (r.test s) (answer.Flag (is_nothing_left xs)) (fuel - 1) children failed) (r.shape xs w) after_it fs → RunsWhole G body (reading local told fuel children failed) (r.shape xs w) after_it fs
+  tested s local told xs w fuel children failed after_it fs paid is rest = tests_empty G paid is r.held (r.stands xs w) rest
 
   -- the loop over these items, from what was kept before
   abbrev pub Reads : List Value → S → Type 0
   Reads items s =
-      (w : W) (fuel children : ℕ) (after_it : Contents) (more : List Fault) → spent s items ≤ fuel → Rest s items w fuel children after_it more
-      → RunsWhole G body (reading (r.test s) (answer.Flag (is_nothing_left items)) fuel children) (r.shape items w) after_it (booked s items children ++ more)
+      (w : W) (fuel children failed : ℕ) (after_it : Contents) (more : List Fault) → spent s items ≤ fuel → Rest s items w fuel children after_it more
+      → RunsWhole G body (reading (r.test s) (answer.Flag (is_nothing_left items)) fuel children failed) (r.shape items w) after_it (booked s items children ++ more)
 
   -- once the item has been popped
-  popped : (x : Value) (xs : List Value) (s : S) → Reads xs (r.keeps s x) → (w : W) (fuel children : ℕ) (after_it : Contents) (more : List Fault) (at : Option (Child L)) → r.gives s x ≡ at → 1 + cost at + spent (r.keeps s x) xs ≤ fuel
-      → ((left kids : ℕ) → left + (1 + cost at + spent (r.keeps s x) xs) ≡ fuel → kids ≡ children + (one at + number_made (r.keeps s x) xs)
-      → RunsWhole G body (reading (r.test (last (r.keeps s x) xs)) (answer.Flag true) left kids) (r.shape [] (made (r.keeps s x) xs (by_child at w))) after_it more)
-      → RunsWhole G body (reading (r.take s) (answer.Item x) fuel children) (r.shape xs w) after_it ((faults_of at children ++ booked (r.keeps s x) xs (children + one at)) ++ more)
-  popped x xs s rest_of w fuel children after_it more None is enough rest =
-      tested (r.keeps s x) (r.take s) (answer.Item x) xs w fuel children after_it _ (omega (arith, enough)) (r.goes_on s x (fuel - 1) is)
-      (subst (λ n. RunsWhole G body (reading (r.test (r.keeps s x)) (answer.Flag (is_nothing_left xs)) (fuel - 1) children) (r.shape xs w) after_it (booked (r.keeps s x) xs n ++ more)) (let e : children ≡ children + 0 = omega arith in e)
-      (rest_of w (fuel - 1) children after_it more (omega (arith, enough))
-      (λ left kids same number. rest left kids (omega (arith, same, enough)) (omega (arith, number)))))
-  popped x xs s rest_of w fuel children after_it more (Some child) is enough rest =
+  popped : (x : Value) (xs : List Value) (s : S) → Reads xs (r.keeps s x) → (w : W) (fuel children failed : ℕ) (after_it : Contents) (more : List Fault) (at : Option (Child L)) → r.gives s x ≡ at → 1 + cost at + spent (r.keeps s x) xs ≤ fuel
+      → ((left kids failed : ℕ) → left + (1 + cost at + spent (r.keeps s x) xs) ≡ fuel → kids ≡ children + (one at + number_made (r.keeps s x) xs)
+      → RunsWhole G body (reading (r.test (last (r.keeps s x) xs)) (answer.Flag true) left kids failed) (r.shape [] (made (r.keeps s x) xs (by_child at w))) after_it more)
+      → RunsWhole G body (reading (r.take s) (answer.Item x) fuel children failed) (r.shape xs w) after_it ((faults_of at children ++ booked (r.keeps s x) xs (children + one at)) ++ more)
+  popped x xs s rest_of w fuel children failed after_it more None is enough rest =
+      tested (r.keeps s x) (r.take s) (answer.Item x) xs w fuel children failed after_it _ (omega (arith, enough)) (r.goes_on s x (fuel - 1) is)
+      (subst (λ n. RunsWhole G body (reading (r.test (r.keeps s x)) (answer.Flag (is_nothing_left xs)) (fuel - 1) children failed) (r.shape xs w) after_it (booked (r.keeps s x) xs n ++ more)) (let e : children ≡ children + 0 = omega arith in e)
+      (rest_of w (fuel - 1) children failed after_it more (omega (arith, enough))
+      (λ left kids last same number. rest left kids last (omega (arith, same, enough)) (omega (arith, number)))))
+  popped x xs s rest_of w fuel children failed after_it more (Some child) is enough rest =
       let at = r.each s x child is in
       let now : ℕ = fuel - 1 - child.fuel in
-      subst (λ fs. RunsWhole G body (reading (r.take s) (answer.Item x) fuel children) (r.shape xs w) after_it fs) (sym (append_assoc (r.books (r.path ++ children ∷ []) child) (booked (r.keeps s x) xs (children + 1)) more))
+      subst (λ fs. RunsWhole G body (reading (r.take s) (answer.Item x) fuel children failed) (r.shape xs w) after_it fs) (sym (append_assoc (r.books (r.path ++ children ∷ []) child) (booked (r.keeps s x) xs (children + 1)) more))
       (spawns_child G (omega (arith, enough)) (r.hands s x child (fuel - 1) is) at.holds at.lawful r.shallow (omega (arith, enough)) (at.whole children xs w)
-      (tested (r.keeps s x) (r.look (r.keeps s x)) answer.Nothing xs (r.does w child) now (children + 1) after_it _ (omega (arith, enough)) (r.looks (r.keeps s x) (now - 1))
-      (rest_of (r.does w child) (now - 1) (children + 1) after_it more (omega (arith, enough))
-      (λ left kids same number. rest left kids (omega (arith, same, enough)) (omega (arith, number))))))
+      (λ last. tested (r.keeps s x) (r.look (r.keeps s x)) answer.Nothing xs (r.does w child) now (children + 1) last after_it _ (omega (arith, enough)) (r.looks (r.keeps s x) (now - 1))
+      (rest_of (r.does w child) (now - 1) (children + 1) last after_it more (omega (arith, enough))
+      (λ left kids count same number. rest left kids count (omega (arith, same, enough)) (omega (arith, number))))))
 
   pub reads_all : (items : List Value) (s : S) → Reads items s
-  reads_all [] s w fuel children after_it more enough rest = rest fuel children (omega arith) (omega arith)
-  reads_all (x ∷ xs) s w fuel children after_it more enough rest =
+  reads_all [] s w fuel children failed after_it more enough rest = rest fuel children failed (omega arith) (omega arith)
+  reads_all (x ∷ xs) s w fuel children failed after_it more enough rest =
       pops G (omega (arith, enough)) (r.takes s (fuel - 1)) r.held (r.stands (x ∷ xs) w)
-      (subst (λ c. RunsWhole G body (reading (r.take s) (answer.Item x) (fuel - 1) children) c after_it (booked s (x ∷ xs) children ++ more)) (sym (r.without x xs w))
-      (popped x xs s (reads_all xs (r.keeps s x)) w (fuel - 1) children after_it more (r.gives s x) refl (omega (arith, enough))
-      (λ left kids is number. rest left kids (omega (arith, is, enough)) number)))
+      (subst (λ c. RunsWhole G body (reading (r.take s) (answer.Item x) (fuel - 1) children failed) c after_it (booked s (x ∷ xs) children ++ more)) (sym (r.without x xs w))
+      (popped x xs s (reads_all xs (r.keeps s x)) w (fuel - 1) children failed after_it more (r.gives s x) refl (omega (arith, enough))
+      (λ left kids last is number. rest left kids last (omega (arith, is, enough)) number)))
 
   -- ---- a reader that makes no children
 
@@ -161,12 +161,12 @@ module _ {B L S W : Type 0} {G : Ghosts B L} {body : B} (r : Reader G body S W) 
         omega (arith, free, spent_none xs (r.keeps s x))
 
     -- the whole loop of such a reader
-    pub reads_alone : (items : List Value) (s : S) (w : W) (fuel children : ℕ) (after_it : Contents) (more : List Fault) → 2 * length items ≤ fuel
-        → ((left kids : ℕ) → left + 2 * length items ≡ fuel → RunsWhole G body (reading (r.test (last s items)) (answer.Flag true) left kids) (r.shape [] w) after_it more)
-        → RunsWhole G body (reading (r.test s) (answer.Flag (is_nothing_left items)) fuel children) (r.shape items w) after_it more
-    reads_alone items s w fuel children after_it more enough rest =
-        subst (λ fs. RunsWhole G body (reading (r.test s) (answer.Flag (is_nothing_left items)) fuel children) (r.shape items w) after_it (fs ++ more)) (booked_none items s children)
-        (reads_all items s w fuel children after_it more (omega (arith, spent_none items s, enough))
-        (λ left kids same number.
-        subst (λ v. RunsWhole G body (reading (r.test (last s items)) (answer.Flag true) left kids) (r.shape [] v) after_it more) (sym (made_none items s w))
-        (rest left kids (omega (arith, same, spent_none items s)))))
+    pub reads_alone : (items : List Value) (s : S) (w : W) (fuel children failed : ℕ) (after_it : Contents) (more : List Fault) → 2 * length items ≤ fuel
+        → ((left kids failed : ℕ) → left + 2 * length items ≡ fuel → RunsWhole G body (reading (r.test (last s items)) (answer.Flag true) left kids failed) (r.shape [] w) after_it more)
+        → RunsWhole G body (reading (r.test s) (answer.Flag (is_nothing_left items)) fuel children failed) (r.shape items w) after_it more
+    reads_alone items s w fuel children failed after_it more enough rest =
+        subst (λ fs. RunsWhole G body (reading (r.test s) (answer.Flag (is_nothing_left items)) fuel children failed) (r.shape items w) after_it (fs ++ more)) (booked_none items s children)
+        (reads_all items s w fuel children failed after_it more (omega (arith, spent_none items s, enough))
+        (λ left kids count same number.
+        subst (λ v. RunsWhole G body (reading (r.test (last s items)) (answer.Flag true) left kids count) (r.shape [] v) after_it more) (sym (made_none items s w))
+        (rest left kids count (omega (arith, same, spent_none items s)))))

@@ -185,46 +185,47 @@ module _ {B L W : Type 0} {G : Ghosts B L} {body : B} (t : BlockTask G body W) w
       by_case true rest = rest (kept_if true k x) ∙ append_assoc k.before (k.held ++ x ∷ []) xs ∙ ap (λ v. k.before ++ v) (append_assoc k.held (x ∷ []) xs)
       by_case false rest = rest (kept_if false k x) ∙ ap (λ v. k.before ++ v) (append_assoc k.held (x ∷ []) xs)
 
-  -- What is to be shown once all blocks have run: the task does its finale next, as the ask of some step.
+  -- What is to be shown once all blocks have run: the task does its finale next, as the ask of some step, with whatever number
+  -- of failed children.
   abbrev pub Finale : List Value → W → ℕ → ℕ → Contents → List Fault → Type 0
   Finale all w fuel kids after_it more =
-      (local : L) (told : Answer) → ((left : ℕ) → G.next body local told left ≡ t.finale all) → RunsWhole G body (reading reader local told fuel kids) (t.shape [] w) after_it more
+      (local : L) (told : Answer) (failed : ℕ) → ((left : ℕ) → G.next body local told left ≡ t.finale all) → RunsWhole G body (reading reader local told fuel kids failed) (t.shape [] w) after_it more
 
-  at_end : (before held : List Value) (w : W) (fuel kids : ℕ) (after_it : Contents) (more : List Fault) → all_cost (last_block before held) ≤ fuel
+  at_end : (before held : List Value) (w : W) (fuel kids failed : ℕ) (after_it : Contents) (more : List Fault) → all_cost (last_block before held) ≤ fuel
       → Finale (before ++ held) (all_do w (last_block before held)) (fuel - all_cost (last_block before held)) (kids + length (last_block before held)) after_it more
-      → RunsWhole G body (reading reader (t.test (record { before = before; held = held })) (answer.Flag true) fuel kids) (t.shape [] w) after_it (all_book kids (last_block before held) ++ more)
-  at_end before [] w fuel kids after_it more enough rest =
+      → RunsWhole G body (reading reader (t.test (record { before = before; held = held })) (answer.Flag true) fuel kids failed) (t.shape [] w) after_it (all_book kids (last_block before held) ++ more)
+  at_end before [] w fuel kids failed after_it more enough rest =
       let local = t.test (record { before = before; held = [] }) in
-      subst (λ n. RunsWhole G body (reading reader local (answer.Flag true) fuel n) (t.shape [] w) after_it more) (let e : kids + 0 ≡ kids = omega arith in e)
-      (subst (λ n. RunsWhole G body (reading reader local (answer.Flag true) n (kids + 0)) (t.shape [] w) after_it more) (let e : fuel - 0 ≡ fuel = omega arith in e)
-      (rest local (answer.Flag true) (λ now. t.ends before now ∙ ap t.finale (sym (append-nil before)))))
-  at_end before (x ∷ xs) w fuel kids after_it more enough rest =
+      subst (λ n. RunsWhole G body (reading reader local (answer.Flag true) fuel n failed) (t.shape [] w) after_it more) (let e : kids + 0 ≡ kids = omega arith in e)
+      (subst (λ n. RunsWhole G body (reading reader local (answer.Flag true) n (kids + 0) failed) (t.shape [] w) after_it more) (let e : fuel - 0 ≡ fuel = omega arith in e)
+      (rest local (answer.Flag true) failed (λ now. t.ends before now ∙ ap t.finale (sym (append-nil before)))))
+  at_end before (x ∷ xs) w fuel kids failed after_it more enough rest =
       let child = t.block before (x ∷ xs) in
       let at = t.each before (x ∷ xs) in
       ends_so G refl (ap (λ fs. fs ++ more) (sym (append-nil (t.books (t.path ++ kids ∷ []) child))))
       (spawns_child G (omega (arith, enough)) (t.hands_rest before x xs (fuel - 1)) at.holds at.lawful t.shallow (omega (arith, enough)) (at.whole kids [] w)
-      (subst (λ n. RunsWhole G body (reading reader (t.rest (before ++ x ∷ xs)) answer.Nothing n (kids + 1)) (t.shape [] (t.does w child)) after_it more) (let e : fuel - (child.fuel + 1 + 0) ≡ fuel - 1 - child.fuel = omega arith in e)
-      (rest (t.rest (before ++ x ∷ xs)) answer.Nothing (t.rests (before ++ x ∷ xs)))))
+      (λ last. subst (λ n. RunsWhole G body (reading reader (t.rest (before ++ x ∷ xs)) answer.Nothing n (kids + 1) last) (t.shape [] (t.does w child)) after_it more) (let e : fuel - (child.fuel + 1 + 0) ≡ fuel - 1 - child.fuel = omega arith in e)
+      (rest (t.rest (before ++ x ∷ xs)) answer.Nothing last (t.rests (before ++ x ∷ xs)))))
 
   -- the loop with all its children, from where nothing is held
-  pub runs_blocks : (items : List Value) (k : Held) (w : W) (fuel kids : ℕ) (after_it : Contents) (more : List Fault) → 2 * length items + all_cost (blocks k items) ≤ fuel
+  pub runs_blocks : (items : List Value) (k : Held) (w : W) (fuel kids failed : ℕ) (after_it : Contents) (more : List Fault) → 2 * length items + all_cost (blocks k items) ≤ fuel
       → ((left : ℕ) → left + 2 * length items + all_cost (blocks k items) ≡ fuel → Finale (k.before ++ (k.held ++ items)) (all_do w (blocks k items)) left (kids + length (blocks k items)) after_it more)
-      → RunsWhole G body (reading reader (t.test k) (answer.Flag (is_nothing_left items)) fuel kids) (t.shape items w) after_it (all_book kids (blocks k items) ++ more)
-  runs_blocks items k w fuel kids after_it more enough rest =
+      → RunsWhole G body (reading reader (t.test k) (answer.Flag (is_nothing_left items)) fuel kids failed) (t.shape items w) after_it (all_book kids (blocks k items) ++ more)
+  runs_blocks items k w fuel kids failed after_it more enough rest =
       let end = last reader k items in
       let tail = last_block end.before end.held in
       let costs = all_cost-are items k in
       ends_so G refl (sym (append_assoc (booked reader k items kids) (all_book (kids + number_made reader k items) tail) more) ∙ ap (λ fs. fs ++ more) (sym (all_book-are items k kids)))
-      (reads_all reader items k w fuel kids after_it (all_book (kids + number_made reader k items) tail ++ more) (omega (arith, enough, costs))
-      (λ left now same number.
-      subst (λ n. RunsWhole G body (reading reader (t.test end) (answer.Flag true) left n) (t.shape [] (made reader k items w)) after_it (all_book (kids + number_made reader k items) tail ++ more)) (sym number)
-      (at_end end.before end.held (made reader k items w) left (kids + number_made reader k items) after_it more (omega (arith, enough, costs, same))
-      (λ local told is.
+      (reads_all reader items k w fuel kids failed after_it (all_book (kids + number_made reader k items) tail ++ more) (omega (arith, enough, costs))
+      (λ left now count same number.
+      subst (λ n. RunsWhole G body (reading reader (t.test end) (answer.Flag true) left n count) (t.shape [] (made reader k items w)) after_it (all_book (kids + number_made reader k items) tail ++ more)) (sym number)
+      (at_end end.before end.held (made reader k items w) left (kids + number_made reader k items) count after_it more (omega (arith, enough, costs, same))
+      (λ local told last is.
       let all : ℕ = kids + length (blocks k items) in
       let are : all ≡ kids + number_made reader k items + length tail = omega (arith, number-are items k) in
-      subst (λ n. RunsWhole G body (reading reader local told (left - all_cost tail) n) (t.shape [] (all_do (made reader k items w) tail)) after_it more) are
-      (subst (λ v. RunsWhole G body (reading reader local told (left - all_cost tail) all) (t.shape [] v) after_it more) (all_do-are items k w)
-      (rest (left - all_cost tail) (omega (arith, costs, same, enough)) local told (λ now. is now ∙ ap t.finale (all_read items k))))))))
+      subst (λ n. RunsWhole G body (reading reader local told (left - all_cost tail) n last) (t.shape [] (all_do (made reader k items w) tail)) after_it more) are
+      (subst (λ v. RunsWhole G body (reading reader local told (left - all_cost tail) all last) (t.shape [] v) after_it more) (all_do-are items k w)
+      (rest (left - all_cost tail) (omega (arith, costs, same, enough)) local told last (λ now. is now ∙ ap t.finale (all_read items k))))))))
 
   -- ---- what all blocks do, from what they do in one piece
 

@@ -32,18 +32,18 @@ pub record Pusher {B L : Type 0} (G : Ghosts B L) (body : B) : Type 0 where
 
 module _ {B L : Type 0} {G : Ghosts B L} {body : B} (p : Pusher G body) where
   -- It may come from another local, if it takes the same step there.
-  pub pushes_all : (xs before : List Value) (path : List ℕ) (local : L) (told : Answer) (fuel children number : ℕ) (holdings : List Holding) (c : Contents)
+  pub pushes_all : (xs before : List Value) (path : List ℕ) (local : L) (told : Answer) (fuel children failed number : ℕ) (holdings : List Holding) (c : Contents)
       → G.next body local told (fuel - 1) ≡ G.next body (p.left xs) answer.Nothing (fuel - 1) → length xs + 1 ≤ fuel → number_at holdings p.place Push ≡ Some number → slice_get c.queues number ≡ Some before
-      → RunsWhole G body (record { path = path; local = local; answer = told; fuel = fuel; holdings = holdings; children = children }) c (with_queue c number (before ++ xs)) []
-  pushes_all [] before path local told fuel children number holdings c is enough held there =
-      let a : Activation L = record { path = path; local = local; answer = told; fuel = fuel; holdings = holdings; children = children } in
+      → RunsWhole G body (record { path = path; local = local; answer = told; fuel = fuel; holdings = holdings; children = children; failed = failed }) c (with_queue c number (before ++ xs)) []
+  pushes_all [] before path local told fuel children failed number holdings c is enough held there =
+      let a : Activation L = record { path = path; local = local; answer = told; fuel = fuel; holdings = holdings; children = children; failed = failed } in
       let same : c ≡ with_queue c number (before ++ []) = sym (ap (with_queue c number) (append-nil before) ∙ with_queue-same c number before there) in
       subst (λ after. RunsWhole G body a c after []) same (finishes G (omega arith) (is ∙ p.ends (fuel - 1)))
-  pushes_all (x ∷ xs) before path local told fuel children number holdings c is enough held there =
-      let a : Activation L = record { path = path; local = local; answer = told; fuel = fuel; holdings = holdings; children = children } in
+  pushes_all (x ∷ xs) before path local told fuel children failed number holdings c is enough held there =
+      let a : Activation L = record { path = path; local = local; answer = told; fuel = fuel; holdings = holdings; children = children; failed = failed } in
       let mid = with_queue c number (before ++ x ∷ []) in
       let same : with_queue mid number ((before ++ x ∷ []) ++ xs) ≡ with_queue c number (before ++ x ∷ xs) =
       with_queue-twice c number (before ++ x ∷ []) _ ∙ ap (with_queue c number) (append_assoc before (x ∷ []) xs) in
       subst (λ after. RunsWhole G body a c after []) same
       (pushes G (omega arith) (is ∙ p.more x xs (fuel - 1)) held there
-      (pushes_all xs (before ++ x ∷ []) path (p.left xs) answer.Nothing (fuel - 1) children number holdings mid refl (omega arith) held (get-set_same c.queues number _ (slice_get_within c.queues number before there))))
+      (pushes_all xs (before ++ x ∷ []) path (p.left xs) answer.Nothing (fuel - 1) children failed number holdings mid refl (omega arith) held (get-set_same c.queues number _ (slice_get_within c.queues number before there))))

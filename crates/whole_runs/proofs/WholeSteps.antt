@@ -19,7 +19,7 @@ use Rattle.swan_model.specs.declared.rights.Mode.TheVariants.{In, Out, InOut, Pu
 use Rattle.swan_model.specs.declared.value.Value.{Value}
 use Rattle.swan_model.specs.Rights.{is_aliased}
 use Rattle.swan_model.specs.SerialState.{Activation, Cell, Holding, Queue, Store}
-use Rattle.swan_model.specs.SerialStep.{Effect, goes_on, spawns, faults, effect, effect_of, after_next, with_answer, with_items, with_place, with_value, number_at, on_object, on_cell, on_queue, on_list, popped, spawn_effect, given, is_nothing_left, cells_with_zeros, zeroed_by, zero_cell}
+use Rattle.swan_model.specs.SerialStep.{Effect, goes_on, spawns, faults, effect, effect_of, after_next, with_answer, with_items, with_place, with_value, number_at, on_object, on_cell, on_queue, on_list, popped, spawn_effect, given, is_nothing_left, synced, cells_with_zeros, zeroed_by, zero_cell}
 use Rattle.swan_model.specs.Values.{kind_of}
 use Rattle.serial_elision.specs.TaskSteps.{child_activation, parent_activation}
 use Rattle.whole_runs.specs.Whole.{Contents, Object, contents_of, object_of, items_of, new_object, with_queue, with_object, zero_object, zeroed_object, zeroed_objects, given_contents, RunsWhole}
@@ -116,12 +116,12 @@ module _ {B L : Type 0} (G : Ghosts B L) where
   pub works : {body : B} {a : Activation L} {local : L} {before after_it : Contents} {fs : List Fault} → 0 < a.fuel → G.next body a.local a.answer (a.fuel - 1) ≡ (local, ask.Work)
       → RunsWhole G body (with_answer (after_next a local) answer.Nothing) before after_it fs → RunsWhole G body a before after_it fs
   works {body = body} {a = a} {local = local} fuel is rest =
-      by_going_on G (λ n store are. record { left = store; is = paid body n store a local ask.Work fuel is; contents = are }) rest
+      by_going_on G (λ n store are. record { left = store; is = paid body n store a local ask.Work fuel is; contents = are }) refl rest
 
   pub syncs : {body : B} {a : Activation L} {local : L} {before after_it : Contents} {fs : List Fault} → 0 < a.fuel → G.next body a.local a.answer (a.fuel - 1) ≡ (local, ask.Sync)
-      → RunsWhole G body (with_answer (after_next a local) answer.Nothing) before after_it fs → RunsWhole G body a before after_it fs
+      → RunsWhole G body (synced (after_next a local)) before after_it fs → RunsWhole G body a before after_it fs
   syncs {body = body} {a = a} {local = local} fuel is rest =
-      by_going_on G (λ n store are. record { left = store; is = paid body n store a local ask.Sync fuel is; contents = are }) rest
+      by_going_on G (λ n store are. record { left = store; is = paid body n store a local ask.Sync fuel is; contents = are }) refl rest
 
   pub pushes : {body : B} {a : Activation L} {local : L} {place number : ℕ} {value : Value} {items : List Value} {before after_it : Contents} {fs : List Fault} → 0 < a.fuel → G.next body a.local a.answer (a.fuel - 1) ≡ (local, ask.Push place value)
       → number_at a.holdings place Push ≡ Some number → slice_get before.queues number ≡ Some items
@@ -135,7 +135,7 @@ module _ {B L : Type 0} (G : Ghosts B L) where
             ∙ on_queue-is store (number_at a.holdings place Push) number at.queue _ held at.found
             ∙ ap (λ xs. goes_on (with_answer (after_next a local) answer.Nothing) (with_items store number at.queue (xs ++ value ∷ []))) at.has;
         contents = with_items-are store before number at.queue (items ++ value ∷ []) are;
-      }) rest
+      }) refl rest
 
   pub pops : {body : B} {a : Activation L} {local : L} {place number : ℕ} {item : Value} {items : List Value} {before after_it : Contents} {fs : List Fault} → 0 < a.fuel → G.next body a.local a.answer (a.fuel - 1) ≡ (local, ask.Pop place)
       → number_at a.holdings place Pop ≡ Some number → slice_get before.queues number ≡ Some (item ∷ items)
@@ -149,7 +149,7 @@ module _ {B L : Type 0} (G : Ghosts B L) where
             ∙ on_queue-is store (number_at a.holdings place Pop) number at.queue _ held at.found
             ∙ ap (popped store (after_next a local) number at.queue) at.has;
         contents = with_items-are store before number at.queue items are;
-      }) rest
+      }) refl rest
 
   pub tests_empty : {body : B} {a : Activation L} {local : L} {place number : ℕ} {items : List Value} {before after_it : Contents} {fs : List Fault} → 0 < a.fuel → G.next body a.local a.answer (a.fuel - 1) ≡ (local, ask.Empty place)
       → number_at a.holdings place Pop ≡ Some number → slice_get before.queues number ≡ Some items
@@ -163,7 +163,7 @@ module _ {B L : Type 0} (G : Ghosts B L) where
             ∙ on_queue-is store (number_at a.holdings place Pop) number at.queue _ held at.found
             ∙ ap (λ xs. goes_on (with_answer (after_next a local) (answer.Flag (is_nothing_left xs))) store) at.has;
         contents = are;
-      }) rest
+      }) refl rest
 
   pub finishes : {body : B} {a : Activation L} {local : L} {before : Contents} → 0 < a.fuel → G.next body a.local a.answer (a.fuel - 1) ≡ (local, ask.Finish) → RunsWhole G body a before before []
   finishes {body = body} {a = a} {local = local} fuel is =
@@ -186,7 +186,7 @@ module _ {B L : Type 0} (G : Ghosts B L) where
             ∙ ap (λ k. goes_on (with_place (after_next a local) (record { mode = PushPop; number = k })) (record store { queues = store.queues ++ made ∷ [] })) many;
         contents = ap {B = Contents} (λ qs. record { objects = map object_of store.cells; queues = qs }) (map-append items_of store.queues (made ∷ []))
             ∙ ap {B = Contents} (λ (c : Contents). record c { queues = c.queues ++ [] ∷ [] }) are;
-      }) rest
+      }) refl rest
 
   pub makes_object : {body : B} {a : Activation L} {local : L} {value : Value} {before after_it : Contents} {fs : List Fault} → 0 < a.fuel → G.next body a.local a.answer (a.fuel - 1) ≡ (local, ask.NewObject value)
       → RunsWhole G body (with_place (after_next a local) (record { mode = InOut; number = length before.objects })) (record before { objects = before.objects ++ new_object value ∷ [] }) after_it fs → RunsWhole G body a before after_it fs
@@ -200,7 +200,7 @@ module _ {B L : Type 0} (G : Ghosts B L) where
             ∙ ap (λ k. goes_on (with_place (after_next a local) (record { mode = InOut; number = k })) (record store { cells = store.cells ++ made ∷ [] })) many;
         contents = ap {B = Contents} (λ os. record { objects = os; queues = map items_of store.queues }) (map-append object_of store.cells (made ∷ []))
             ∙ ap {B = Contents} (λ (c : Contents). record c { objects = c.objects ++ new_object value ∷ [] }) are;
-      }) rest
+      }) refl rest
 
   pub reads : {body : B} {a : Activation L} {local : L} {place number : ℕ} {object : Object} {before after_it : Contents} {fs : List Fault} → 0 < a.fuel → G.next body a.local a.answer (a.fuel - 1) ≡ (local, ask.Read place)
       → number_at a.holdings place In ≡ Some number → slice_get before.objects number ≡ Some object
@@ -214,7 +214,7 @@ module _ {B L : Type 0} (G : Ghosts B L) where
             ∙ on_object-is store (number_at a.holdings place In) number at.cell _ held at.found
             ∙ ap (λ (o : Object). goes_on (with_answer (after_next a local) (answer.Item o.value)) store) at.has;
         contents = are;
-      }) rest
+      }) refl rest
 
   pub writes : {body : B} {a : Activation L} {local : L} {place number : ℕ} {value : Value} {object : Object} {before after_it : Contents} {fs : List Fault} → 0 < a.fuel → G.next body a.local a.answer (a.fuel - 1) ≡ (local, ask.Write place value)
       → number_at a.holdings place Out ≡ Some number → slice_get before.objects number ≡ Some object
@@ -229,13 +229,13 @@ module _ {B L : Type 0} (G : Ghosts B L) where
         contents = ap {B = Contents} (λ os. record { objects = os; queues = map items_of store.queues }) (map-set object_of store.cells number (record at.cell { value = value }))
             ∙ ap (λ c. with_object c number (object_of (record at.cell { value = value }))) are
             ∙ ap (λ (o : Object). with_object before number (record o { value = value })) at.has;
-      }) rest
+      }) refl rest
 
-  -- a spawn without a fault: the child runs whole, and then the task goes on
+  -- a spawn without a fault: the child runs whole, and then the task goes on, with whatever number of failed children
   pub spawns_child : {body : B} {a : Activation L} {local : L} {child : Child L} {holdings : List Holding} {before between after_it : Contents} {fs more : List Fault} → 0 < a.fuel → G.next body a.local a.answer (a.fuel - 1) ≡ (local, ask.Spawn child)
       → given a.holdings child.gives ≡ Some holdings → is_aliased child.gives ≡ false → length a.path < PATH_MOST → child.fuel ≤ a.fuel - 1
       → RunsWhole G body (child_activation a child holdings) (given_contents before holdings) between fs
-      → RunsWhole G body (parent_activation (after_next a local) child) between after_it more → RunsWhole G body a before after_it (fs ++ more)
+      → ((failed : ℕ) → RunsWhole G body (record (parent_activation (after_next a local) child) { failed = failed }) between after_it more) → RunsWhole G body a before after_it (fs ++ more)
   spawns_child {body = body} {a = a} {local = local} {child = child} {holdings = holdings} fuel is holds lawful shallow enough whole rest =
       by_spawning G (λ n store are.
       record {
@@ -244,4 +244,4 @@ module _ {B L : Type 0} (G : Ghosts B L) where
             ∙ spawned-is store (after_next a local) child (given a.holdings child.gives) holdings holds lawful shallow enough;
         contents = ap {B = Contents} (λ os. record { objects = os; queues = map items_of store.queues }) (zeroed-are store.cells holdings)
             ∙ ap (λ c. given_contents c holdings) are;
-      }) whole rest
+      }) refl refl whole rest

@@ -3,7 +3,8 @@
 //! A task that is on top of the elision's stack runs with all that it spawns, until it has ended and what stood
 //! below it is on top again. `specs/Whole.antt` says what it leaves, by the values of objects and the items of
 //! queues alone: no count of steps shows in it, and nobody's name. So the run of a task is told from those of its
-//! children, and a whole plan from its root.
+//! children, and a whole plan from its root. What stood below a task stays, but that its parent has one more failed
+//! child where the task ended by a fault; so a parent goes on with whatever number of failed children.
 //!
 //! Promised, and proved of each plan and each body: where the root runs whole, what it leaves is the outcome of
 //! the plan, by the law `a_whole_run_is_the_outcome`.

@@ -15,7 +15,7 @@ turn-requires-clause-steps g c = omega (arith, le-most g.B.Body c.args.plan c.lo
 
 pub turn-requires-clause-stack : goal.turn-requires-clause-stack
 turn-requires-clause-stack g c =
-    subst (λ (s : State g.row.B-Local.Denot). MayFail s.stack) (sym c.loop-turn.invariant.now) (serial-may_fail g.B.Body c.args.plan c.loop-turn.invariant.steps ?)
+    λ κs live. subst (λ (s : State g.row.B-Local.Denot). MayFail s.stack) (sym c.loop-turn.invariant.now) (serial-may_fail g.B.Body c.args.plan c.loop-turn.invariant.steps (omega (arith, c.units.ensures.units, c.units.ensures.most)))
 
 pub returns-clause-outcome : goal.returns-clause-outcome
 returns-clause-outcome g c =

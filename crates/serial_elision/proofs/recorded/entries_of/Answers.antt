@@ -16,7 +16,7 @@ record_step-requires-clause-steps g c = omega (arith, le-serial g.B.Body c.args.
 
 pub record_step-requires-clause-stack : goal.record_step-requires-clause-stack
 record_step-requires-clause-stack g c =
-    subst (λ (s : State g.row.B-Local.Denot). MayFail s.stack) (sym c.loop-turn.invariant.state) (serial-may_fail g.B.Body c.args.plan c.loop-turn._turn ?)
+    λ κs live. subst (λ (s : State g.row.B-Local.Denot). MayFail s.stack) (sym c.loop-turn.invariant.state) (serial-may_fail g.B.Body c.args.plan c.loop-turn._turn (omega (arith, c.units.ensures.units, c.units.ensures.most)))
 
 pub loop-turn-preserved : goal.loop-turn-preserved
 loop-turn-preserved g c =

@@ -1,16 +1,15 @@
--- The bytes so far and the lines that are left give the fold of all.
-use Rattle.std.proofs.Common.{◌≡◌, ◌≤◌, false, [], length, map}
+-- The part so far and the lines that are left give the fold of all.
+use Rattle.std.proofs.Common.{◌≡◌, [], length, map}
 use Rattle.swan_model.specs.Values.{bytes_of}
-use Rattle.swan_reducers.specs.declared.join_reducer.TheConstants.{JOIN_MOST}
-use Rattle.swan_reducers.specs.Joins.{bytes_joined, is_too_long, line_part}
+use Rattle.swan_reducers.specs.Joins.{bytes_joined, bytes_part, line_part}
 use Rattle.swan_reducers.specs.LineFolds.{joined_lines}
+use Rattle.swan_reducers.proofs.JoinBlocks.{IsWhole}
 use Rattle.swan_reducers.proofs.join_reducer.lines_joined.Given as goal
 
 abbrev pub invariant-loop-line : goal.invariant-loop-line
 invariant-loop-line l = record {
-  short : is_too_long l.bytes.items ≡ false;
-  few : length l.bytes.items ≤ JOIN_MOST;
-  fold : joined_lines line_part bytes_joined l.bytes.items (map bytes_of l.block.lines) ≡ joined_lines line_part bytes_joined [] (map bytes_of l.fn.block.lines);
+  whole : IsWhole l.part.items;
+  fold : joined_lines line_part bytes_joined l.part.items (map bytes_of l.block.lines) ≡ joined_lines line_part bytes_joined (bytes_part []) (map bytes_of l.fn.block.lines);
 }
 
 abbrev pub decreases-loop-line : goal.decreases-loop-line

@@ -1,6 +1,7 @@
-use Rattle.std.proofs.Common.{◌≡◌, Some, ◌∙◌, ap}
+use Rattle.std.proofs.Common.{◌≡◌, ◌+◌, ◌^◌, ◌<◌, Some, ◌∙◌, ap, sym}
+use Rattle.std.proofs.lemmas.List.Elements.{All-rest, All-same}
 use Rattle.swan_model.specs.Script.{next_entry}
-use Rattle.swan_model.specs.SerialState.{State}
+use Rattle.swan_model.specs.SerialState.{Activation, State}
 use Rattle.swan_model.specs.SerialStep.{step}
 use Rattle.serial_elision.specs.Effects.{after_effect}
 use Rattle.serial_elision.proofs.Scripts.{entry-paid}
@@ -26,3 +27,16 @@ returns-clause-entry g c =
     let before : State g.row.L.Denot = record { steps = c.self.inside.steps; stack = c.self.inside.stack; store = c.self.inside.store; faults = c.self.inside.faults } in
     let paid = entry-paid g.B.Body body before c.in-Some.top c.in_ok-top.top c.perform.new.top c.in_ok-top.ask _ c.in-Ok-perform.effect c.perform.new.self.store c.in-Ok.path c.in-Ok-asked.deed c.in-Some.ensures.top fuelled c.in_ok-top.ensures.moved c.in_ok-top.ensures.ask path c.in-Ok-asked.ensures c.in-Ok-perform.ensures.effect in
     ap Some c.entry-told.ensures ∙ paid ∙ ap (next_entry g.B.Body body) c.self.view_is
+
+-- what stands below the top may fail as before
+pub settle-requires-clause-parent : goal.settle-requires-clause-parent
+settle-requires-clause-parent g c =
+    All-rest (λ (a : Activation g.row.L.Denot). a.failed + 1 < 2 ^ 64) c.in-Some.top c.pop.new.self c.args.self.now.stack
+    (sym (ap (λ (s : State g.row.L.Denot). s.stack) c.self.view_is) ∙ c.in-Some.ensures.top) c.requires.stack
+
+pub settle-requires-2-clause-parent : goal.settle-requires-2-clause-parent
+settle-requires-2-clause-parent g c =
+    let P : Activation g.row.L.Denot → Type 0 = λ a. a.failed + 1 < 2 ^ 64 in
+    All-same P c.perform.new.self.stack c.pop.new.self c.in-Ok-perform.ensures.stack
+    (All-rest P c.in-Some.top c.pop.new.self c.args.self.now.stack
+    (sym (ap (λ (s : State g.row.L.Denot). s.stack) c.self.view_is) ∙ c.in-Some.ensures.top) c.requires.stack)

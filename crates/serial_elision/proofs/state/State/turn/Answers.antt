@@ -1,16 +1,26 @@
-use Rattle.std.proofs.Common.{◌+◌, ◌-◌, ◌∷◌, ◌∙◌, ap, refl, subst, sym, arith}
+use Rattle.std.proofs.Common.{◌≡◌, ℕ, ◌+◌, ◌-◌, ◌^◌, ◌<◌, ◌∷◌, ◌∙◌, rules, ap, refl, subst, sym, arith}
+use Rattle.std.proofs.lemmas.List.Elements.{All-rest}
 use Rattle.std.proofs.lemmas.Result.{on_ok_weaker}
+use Rattle.swan_model.specs.declared.body.Answer.{Answer}
 use Rattle.swan_model.specs.declared.body.Answer.TheVariants as answer
 use Rattle.swan_model.specs.declared.body.Worked.{Worked}
 use Rattle.swan_model.specs.declared.fault.FaultKind.TheVariants as kind
 use Rattle.swan_model.specs.declared.plan.TheConstants.{FUEL_MOST}
 use Rattle.swan_model.specs.SerialState.{Activation, State}
-use Rattle.swan_model.specs.SerialStep.{state_after, effect, faults}
+use Rattle.swan_model.specs.SerialStep.{Effect, state_after, effect, faults, goes_on}
+use Rattle.serial_elision.specs.Bounds.{MayFail}
 use Rattle.serial_elision.specs.declared.reply.Reply.{Reply}
 use Rattle.serial_elision.specs.Effects.{as_ask, IsReply}
 use Rattle.serial_elision.proofs.Works.{dry-end, fault-row, HasRow, HasTurned, last-end, own-row, told-row}
 use Rattle.serial_elision.proofs.state.State.turn.Goals as goal
-use Rattle.serial_elision.proofs.state.State.turn.Goals.{else-row-fuel, then-row-fuel+in_ok-moved+in_default-stop}
+use Rattle.serial_elision.proofs.state.State.turn.Goals.{else-row-fuel, in-Synced, in-Told, then-row-fuel+in_ok-moved+in_default-stop}
+
+pub loop-row-init : goal.loop-row-init
+loop-row-init g c = record {
+  turned = search rules;
+  within = search rules;
+  parent = All-rest (λ (a : Activation g.row.L.Denot). a.failed + 1 < 2 ^ 64) c.in-Some.top c.pop.new.self c.args.self.now.stack (sym (ap (λ (s : State g.row.L.Denot). s.stack) c.self.view_is) ∙ c.in-Some.ensures.top) c.requires.stack;
+}
 
 pub loop-row-preserved : goal.loop-row-preserved
 loop-row-preserved g c =
@@ -26,11 +36,18 @@ loop-row-preserved g c =
     let row : HasRow g.B.Body body a FUEL_MOST w = record { works = is.works; all = is.all; last = is.last; stopped = is.stopped; moved = is.moved; ask = is.ask; place = is.place } in
     let stop = c.in-Some-stop.field-0 in
     let paid : Activation g.row.L.Denot = record a { local = w.local; answer = answer.Nothing; fuel = a.fuel - w.works - 1 } in
-    let reply = subst (λ (r : Reply g.row.L.Denot). IsReply r paid inside.store c.answer.new.self stop.ask (effect (inside.steps + w.works) inside.store paid stop.ask)) c.in-Told.is (c.in_ok-told.ensures (inside.steps + w.works) paid (sym c.as_slice.ensures.value)) in
+    let P : Reply g.row.L.Denot → Type 0 = λ r. IsReply r paid inside.store c.answer.new.self stop.ask (effect (inside.steps + w.works) inside.store paid stop.ask) in
+    let reply : P c.in_ok-told.field-0 = c.in_ok-told.ensures (inside.steps + w.works) paid (sym c.as_slice.ensures.value) in
+    let next : Activation g.row.L.Denot = record paid { answer = c.match-branch-3.answer; failed = c.match-branch-3.failed } in
+    let goes : (x : Answer) (n : ℕ) → Effect g.row.L.Denot = λ x n. goes_on (record paid { answer = x; failed = n }) c.answer.new.self in
+    let does : effect (inside.steps + w.works) inside.store paid stop.ask ≡ goes_on next c.answer.new.self = elim c.match-branch-3.branch [
+      | in-Told t ↦ subst P t.in-Told.is reply ∙ ap (λ x. goes x c.loop-row.failed) (sym t.answer-is) ∙ ap (goes c.match-branch-3.answer) (sym t.failed-is)
+      | in-Synced t ↦ subst P t.in-Synced.is reply ∙ ap (λ x. goes x 0) (sym t.answer-is) ∙ ap (goes c.match-branch-3.answer) (sym t.failed-is)
+    ] in
     record {
-      turned = told-row g.B.Body body s now a (record paid { answer = c.in-Told.told }) below FUEL_MOST c.loop-row._row c.top.inside.fuel w stop c.answer.new.self so refl row c.in-Some-stop.is reply;
+      turned = told-row g.B.Body body s now a next below FUEL_MOST c.loop-row._row c.top.inside.fuel w stop c.answer.new.self so refl row c.in-Some-stop.is does;
       within = c.loop-row.invariant.within;
-      parent = c.loop-row.invariant.parent;
+      parent = subst (λ (t : State g.row.L.Denot). MayFail t.stack) (sym c.self-in-loop-row.view_is) c.loop-row.invariant.parent;
     }
 
 pub returns-in-Fault : goal.returns-in-Fault
