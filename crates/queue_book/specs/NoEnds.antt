@@ -1,4 +1,4 @@
--- Ends that push and pop nothing.
+-- Ends that serve nothing.
 use Rattle.std.specs.Prelude.{ℕ, List, []}
 use Rattle.queues.specs.Asks.{LentEnds}
 use Rattle.queues.specs.Ends.{EndCounts}
@@ -9,4 +9,4 @@ no_ends frame deeds path = record { frame = frame; path = path; before = deeds; 
 
 -- what an end shows that isn't there
 abbrev pub no_counts : EndCounts
-no_counts = record { moved = 0; size = 0; looks = 0; found = 0 }
+no_counts = record { moved = 0; tested = 0; size = 0; looks = 0; glances = 0; found = 0 }

@@ -95,6 +95,11 @@ impl Queues for BookQueues {
         }
     }
 
+    /// Answers by the turns of those that pop. `O(k log n)` for the child's k queues.
+    fn may_start(&self, child: u64) -> Result<(), u64> {
+        self.store.turns.may_start(child)
+    }
+
     /// Makes a child, to which the parent hands its chunk of each queue that it gives; it goes on in a new one
     /// behind. `O(log n)`, and as much amortised for each give.
     fn spawn(&mut self, parent: u64, child: u64, gives: &[QueueGive]) -> Result<(), NoMemory> {
@@ -115,7 +120,7 @@ impl Queues for BookQueues {
         }
     }
 
-    /// Lends ends that push and pop nothing. `O(log n)`.
+    /// Lends ends that serve nothing. `O(log n)`.
     fn lend(&mut self, frame: u64) -> NoEnds {
         let path = Meaning::of(&PathOf {
             state: &self.state,

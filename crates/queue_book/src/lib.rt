@@ -4,8 +4,8 @@
 //! be. A queue is a list of chunks in serial order; each active frame that has the queue owns one, where it pushes, and
 //! one that may only pop owns one too, which marks its place. Where a child may still pop, a pop names the oldest such child.
 //! Else it takes from the first chunk that isn't spent; or where no item is there, it names the first owner before the frame's
-//! own chunk that may push; or there is none, and the queue is empty. Chunks are nodes of a slab, and popped items are given up at once. Its ends, `NoEnds`, push and pop
-//! nothing.
+//! own chunk that may push; or there is none, and the queue is empty. Chunks are nodes of a slab, and popped items are
+//! given up at once. Its ends, `NoEnds`, serve nothing.
 //!
 //! What stands in the chunks, and whose they are, is said in `queues` (`specs/Chunks`). Here is said how they are kept:
 //! chains of nodes, the frames by number, and the turns of those that pop.

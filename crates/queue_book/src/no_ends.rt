@@ -1,11 +1,11 @@
-// Ends of queues that push and pop nothing.
+// Ends of queues that serve nothing.
 ghost use Rattle.std.specs.Prelude.{◌≡◌};
 
 use crate::LocalEnds;
 use crate::stated::Pathed;
 use swan_model::{Meaning, RunName, Value};
 
-/// Ends that push and pop nothing, so that their frame asks the queues each time.
+/// Ends that push and pop nothing and find no item, so that their frame asks the queues each time.
 #[derive(Drop)]
 pub struct NoEnds {
     name: RunName,
@@ -62,5 +62,15 @@ impl LocalEnds for NoEnds {
     /// None. `O(1)`.
     fn pop(&mut self, _queue: u32) -> Option<Value> {
         None
+    }
+
+    /// False. `O(1)`.
+    fn test(&mut self, _queue: u32) -> bool {
+        false
+    }
+
+    /// False. `O(1)`.
+    fn finds(&mut self, _queue: u32) -> bool {
+        false
     }
 }

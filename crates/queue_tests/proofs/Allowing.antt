@@ -1,5 +1,5 @@
 -- Where these conditions hold, a state allows the call.
-use Rattle.std.proofs.Common.{◌≡◌, ℕ, Bool, true, ◌&&◌, ◌==◌, not, ltb, Option, Some, None, List, [], ◌∷◌, length, refl, sym, ap, ◌∙◌, is_none, slice_get}
+use Rattle.std.proofs.Common.{◌≡◌, ℕ, ◌<◌, Bool, true, ◌&&◌, ◌==◌, not, ltb, Option, Some, None, List, [], ◌∷◌, length, refl, sym, ap, ◌∙◌, is_none, slice_get}
 use Rattle.std.specs.List.{list_any}
 use Rattle.std.proofs.lemmas.Bool.{and_parts, eqb-true, ltb-true, false≢true, not-true, eq-eqb}
 use Rattle.std.proofs.lemmas.Map.Keys.{any_passes_from_place}
@@ -32,6 +32,12 @@ pub made_by_test : (state : QueueState) (number : ℕ) → may_make state number
 made_by_test state number e =
     let is = acting (active state number) has_room (and_parts (may_make state number) (has_space state) e).0 in
     record { frame = is.frame; may = record { live = is.live; back = is.back }; room = ltb-true is.frame.deeds COUNT_MOST is.holds }
+
+pub made_by_room : (state : QueueState) (number : ℕ) → may_make state number ≡ true
+    → (frame : ActiveFrame) × (active state number ≡ Some frame) × (frame.deeds < COUNT_MOST)
+made_by_room state number e =
+    let is = acting (active state number) has_room e in
+    (is.frame, is.live, ltb-true is.frame.deeds COUNT_MOST is.holds)
 
 pub lent_by_test : (state : QueueState) (number : ℕ) → may_make state number ≡ true
     → (frame : ActiveFrame) × (active state number ≡ Some frame) × (frame.lent ≡ None)

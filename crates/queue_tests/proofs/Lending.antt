@@ -1,9 +1,11 @@
 -- Which frames may lend their ends.
-use Rattle.std.proofs.Common.{◌≡◌, ◌≢◌, ℕ, true, Some, None, List, refl, sym, ap, subst, ◌∙◌}
+use Rattle.std.proofs.Common.{◌≡◌, ◌≢◌, ℕ, ◌<◌, true, Some, None, List, refl, sym, ap, subst, ◌∙◌}
 use Rattle.swan_model.specs.QueueState.{ActiveFrame, LentEnd, QueueState, active, after_lend, new_state, root_frame}
+use Rattle.swan_model.specs.Values.{COUNT_MOST}
+use Rattle.queues.specs.Asks.{LentEnds}
 use Rattle.queues.proofs.ActiveAfter.{one_goes_on}
 use Rattle.queue_tests.specs.Allowed.{may_make}
-use Rattle.queue_tests.proofs.Allowing.{lent_by_test}
+use Rattle.queue_tests.proofs.Allowing.{lent_by_test, made_by_room}
 
 -- a frame of this number is active and has its ends
 abbrev pub MayLend : QueueState → ℕ → Type 0
@@ -24,3 +26,12 @@ lent_beside state now one two frame ends live apart may is =
 -- a frame that may make a queue in one state may in an equal one
 pub makes_where_equal : (state other : QueueState) (number : ℕ) → state ≡ other → may_make other number ≡ true → may_make state number ≡ true
 makes_where_equal state other number is may = ap (λ s. may_make s number) is ∙ may
+
+-- the ends that such a frame was just lent have room for one more deed
+pub deeds_left : (state : QueueState) (number : ℕ) (ends : LentEnds) → may_make state number ≡ true
+    → ((frame : ActiveFrame) → active state number ≡ Some frame
+    → ends ≡ record { frame = number; path = frame.path; before = frame.deeds; deeds = frame.deeds; list = ends.list })
+    → ends.deeds < COUNT_MOST
+deeds_left state number ends may are =
+    let is = made_by_room state number may in
+    subst (λ k. k < COUNT_MOST) (sym (ap (λ (e : LentEnds). e.deeds) (are is.0 is.1))) is.2

@@ -32,6 +32,7 @@ abbrev pub allows_step : QueueState → Step → Bool
 allows_step state (step.CreateRoot number item) = is_untouched state && has_space state
 allows_step state (step.Create frame number) = may_make state frame && has_space state
 allows_step state (step.Spawn parent child queue mode) = may_spawn state parent child ((record { queue = queue; mode = mode }) ∷ [])
+allows_step state (step.MayStart child blocker) = true
 allows_step state (step.Use frame queue way) = allows_use state frame queue way
 allows_step state (step.Finish frame) = may_join state frame
 allows_step state (step.TakeRest queue items) = is_rest_left state queue
@@ -41,6 +42,7 @@ abbrev pub after_step : QueueState → Step → QueueState
 after_step state (step.CreateRoot number item) = after_create_root state
 after_step state (step.Create frame number) = with_active (after_create state) state (active state frame)
 after_step state (step.Spawn parent child queue mode) = after_spawn_by state parent child ((record { queue = queue; mode = mode }) ∷ [])
+after_step state (step.MayStart child blocker) = state
 after_step state (step.Use frame queue way) = after_use state frame way
 after_step state (step.Finish frame) = after_finish state frame
 after_step state (step.TakeRest queue items) = after_take_rest state queue

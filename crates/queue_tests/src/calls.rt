@@ -75,6 +75,14 @@ pub fn spawn<Q: Queues>(
     Ok(())
 }
 
+/// Asks whether a child may begin to pop. The answer has to name this blocker, or none.
+pub fn may_start<Q: Queues>(queues: &Q, child: u64, blocker: Option<u64>) -> Result<(), Wrong> {
+    if queues.may_start(child).err() == blocker {
+        return Ok(());
+    }
+    Err(Wrong::Answer)
+}
+
 /// Pushes a number.
 pub fn push<Q: Queues>(queues: &mut Q, frame: u64, queue: u32, item: i64) -> Result<(), Wrong>
     requires free { Q.name queues.old ≡ None }

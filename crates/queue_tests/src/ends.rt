@@ -1,11 +1,11 @@
-// Ends that are lent come back to their frame alone.
+// Ends that are lent come back to their frame alone, and find what they should.
 ghost use Rattle.std.specs.Prelude.{◌≡◌, ◌≢◌, true, None, IfOk};
 ghost use Rattle.swan_model.specs.QueueState.{new_state};
 ghost use Rattle.queue_tests.specs.Allowed.{may_make};
 ghost use Rattle.queue_tests.specs.Steps.{after_steps, allows_steps};
 
 use crate::{Step, run};
-use queues::Queues;
+use queues::{LocalEnds, Queues};
 use std::alloc::Global;
 use std::test::Fail;
 
@@ -45,6 +45,48 @@ fn lend_both<Q: Queues>(queues: &mut Q, one: u64, two: u64) -> Result<(), Fail>
     let of_one = queues.lend(one);
     let of_two = queues.lend(two);
     give_back(queues, one, of_one, two, of_two)
+}
+
+/// Makes the calls of a table, and lends a frame its ends: a look by them and a test by them have to find an
+/// item of a queue, or both of them none, and the frame has to get the ends back.
+#[tactic(auto, using(crate::proofs::Lending::makes_where_equal))]
+pub fn finds_by_ends<Q: Queues>(
+    queues: &mut Q,
+    alloc: Global,
+    steps: &[Step],
+    frame: u64,
+    queue: u32,
+    some: bool,
+) -> Result<(), Fail>
+    // queues in which nothing was done, where the table may be called
+    requires free { Q.name queues.old ≡ None }
+    requires new { Q.state queues.old ≡ new_state }
+    requires may { allows_steps new_state steps.now ≡ true }
+
+    // a frame that may have its ends then
+    requires lends { may_make (after_steps new_state steps.now) frame ≡ true }
+{
+    match run(queues, alloc, steps) {
+        Ok(()) => finds_by_lent(queues, frame, queue, some),
+        Err(wrong) => Err(wrong.into()),
+    }
+}
+
+/// Lends a frame its ends: a look by them and a test by them have to find an item of a queue, or both of them
+/// none, and the frame has to get the ends back.
+#[tactic(auto, using(crate::proofs::Allowing::lent_by_test, crate::proofs::Lending::deeds_left))]
+fn finds_by_lent<Q: Queues>(queues: &mut Q, frame: u64, queue: u32, some: bool) -> Result<(), Fail>
+    requires free { Q.name queues.old ≡ None }
+    requires lends { may_make (Q.state queues.old) frame ≡ true }
+{
+    let mut ends = queues.lend(frame);
+    let found = ends.finds(queue);
+    let tested = ends.test(queue);
+    accept(queues, frame, ends)?;
+    if found == some && tested == some {
+        return Ok(());
+    }
+    Err("the ends found another answer".into())
 }
 
 /// Gives each of two frames the other's ends, which has to be refused, and then its own, which has to be taken.

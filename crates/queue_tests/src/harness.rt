@@ -35,6 +35,7 @@ fn make<Q: Queues>(queues: &mut Q, alloc: Global, step: Step) -> Result<(), Wron
         Step::CreateRoot(number, item) => calls::create_root(queues, alloc, number, item),
         Step::Create(frame, number) => calls::create(queues, frame, number),
         Step::Spawn(parent, child, queue, mode) => calls::spawn(queues, parent, child, queue, mode),
+        Step::MayStart(child, blocker) => calls::may_start(queues, child, blocker),
         Step::Use(frame, queue, way) => make_use(queues, frame, queue, way),
         Step::Finish(frame) => {
             calls::finish(queues, frame);

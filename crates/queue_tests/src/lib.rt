@@ -24,7 +24,7 @@ mod tests;
 mod wrong;
 
 #[cfg(test)]
-pub use ends::lend_two;
+pub use ends::{finds_by_ends, lend_two};
 #[cfg(test)]
 pub use harness::run;
 #[cfg(test)]
@@ -32,7 +32,8 @@ pub use many::push_many;
 pub use step::{Step, Use};
 #[cfg(test)]
 pub use tables::{
-    CHILD_QUEUE_ENDS, FIRST_ITEMS, GRANDCHILD, PUSHER_BETWEEN_POPPERS, TWO_CHILDREN, TWO_PUSHERS,
+    CHILD_QUEUE_ENDS, FIRST_ITEMS, GRANDCHILD, POP_TURNS, PUSHER_BETWEEN_POPPERS, TWO_CHILDREN,
+    TWO_PUSHERS,
 };
 #[cfg(test)]
 pub use wrong::{Wrong, WrongStep};

@@ -11,6 +11,8 @@ pub enum Step<'a> {
     Create(u64, u32),
     /// Makes this child of a frame, which is given one queue by a mode.
     Spawn(u64, u64, u32, Mode),
+    /// Asks whether a child may begin to pop, and has to be told who keeps it from that, or that nobody does.
+    MayStart(u64, Option<u64>),
     /// Uses a queue in this way.
     Use(u64, u32, Use),
     /// Syncs and ends a frame.

@@ -71,6 +71,36 @@ pub const PUSHER_BETWEEN_POPPERS: &[Step] = &[
     Step::Use(3, 0, Use::Test(Tested::Empty)),
 ];
 
+/// Children that pop one queue begin to pop one after the other. A pusher, one that pops another queue, and a child of
+/// one that pops wait for nobody.
+pub const POP_TURNS: &[Step] = &[
+    Step::Create(0, 0),
+    Step::Create(0, 1),
+    Step::Spawn(0, 1, 0, Mode::Push),
+    Step::Spawn(0, 2, 0, Mode::Pop),
+    Step::Spawn(0, 3, 1, Mode::Pop),
+    Step::Spawn(0, 4, 0, Mode::PushPop),
+    Step::Spawn(0, 5, 0, Mode::Push),
+    Step::Spawn(2, 6, 0, Mode::Pop),
+    Step::Spawn(0, 7, 0, Mode::Pop),
+    Step::MayStart(0, None),
+    Step::MayStart(1, None),
+    Step::MayStart(2, None),
+    Step::MayStart(3, None),
+    Step::MayStart(4, Some(2)),
+    Step::MayStart(5, None),
+    Step::MayStart(6, None),
+    Step::MayStart(7, Some(2)),
+    Step::Finish(6),
+    Step::Finish(2),
+    Step::MayStart(2, None),
+    Step::MayStart(4, None),
+    Step::MayStart(7, Some(4)),
+    Step::Finish(4),
+    Step::MayStart(7, None),
+    Step::MayStart(8, None),
+];
+
 /// A queue of a child ends with it, and its number stays taken.
 pub const CHILD_QUEUE_ENDS: &[Step] = &[
     Step::Create(0, 0),

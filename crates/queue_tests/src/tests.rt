@@ -57,6 +57,11 @@ fn a_pusher_between_two_poppers(rt: HostRuntime) -> Result<(), Fail> {
 }
 
 #[test]
+fn poppers_of_one_queue_begin_one_after_the_other(rt: HostRuntime) -> Result<(), Fail> {
+    meets(rt.alloc(), POP_TURNS)
+}
+
+#[test]
 fn a_queue_of_a_child_ends_with_it_and_its_number_stays_taken(rt: HostRuntime) -> Result<(), Fail> {
     meets(rt.alloc(), CHILD_QUEUE_ENDS)
 }
@@ -77,6 +82,15 @@ fn keeps_apart(alloc: Global, steps: &[Step], one: u64, two: u64) -> Result<(), 
 #[test]
 fn ends_come_back_to_their_frame_alone(rt: HostRuntime) -> Result<(), Fail> {
     keeps_apart(rt.alloc(), TWO_CHILDREN, 1, 2)
+}
+
+#[test]
+fn ends_of_the_plain_form_find_no_item(rt: HostRuntime) -> Result<(), Fail> {
+    let alloc = rt.alloc();
+    let mut queues = book(alloc);
+    let found = finds_by_ends(&mut queues, alloc, &[Step::CreateRoot(0, 7)], 0, 0, false);
+    drop(queues);
+    found
 }
 
 /// Lets go what may be sent to another thread.
@@ -141,6 +155,17 @@ fn wrong_waits_are_found(rt: HostRuntime) -> Result<(), Fail> {
     finds(alloc, 1, &[Step::CreateRoot(0, 7), wait])?;
     let child = Step::Spawn(0, 1, 0, Mode::Push);
     finds(alloc, 2, &[Step::Create(0, 0), child, wait])
+}
+
+#[test]
+fn wrong_turns_are_found(rt: HostRuntime) -> Result<(), Fail> {
+    let alloc = rt.alloc();
+    let root = Step::CreateRoot(0, 7);
+    let one = Step::Spawn(0, 1, 0, Mode::Pop);
+    let two = Step::Spawn(0, 2, 0, Mode::Pop);
+    finds(alloc, 3, &[root, one, two, Step::MayStart(2, None)])?;
+    finds(alloc, 3, &[root, one, two, Step::MayStart(1, Some(2))])?;
+    finds(alloc, 3, &[root, one, two, Step::MayStart(2, Some(2))])
 }
 
 #[test]

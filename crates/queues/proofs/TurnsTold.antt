@@ -1,10 +1,10 @@
 -- What the turns of poppers tell of the frames of a state: who comes first, who keeps whom from starting, and what the answers
 -- of the turns mean.
-use Rattle.std.proofs.Common.{◌≡◌, ◌≢◌, inl, inr, ℕ, ◌<◌, true, Some, List, [], ◌∷◌, ◌++◌, sym, ap, subst, ◌∙◌, append_assoc, append-nil, arith}
+use Rattle.std.proofs.Common.{◌≡◌, ◌≢◌, inl, inr, ℕ, ◌<◌, ◌≤◌, true, Some, Result, Ok, Err, IfErr, OnOk, List, [], ◌∷◌, ◌++◌, sym, ap, subst, ◌∙◌, append_assoc, append-nil, arith}
 use Rattle.std.proofs.lemmas.Bool.{cases_order}
 use Rattle.std.proofs.lemmas.Option.{same_Some}
 use Rattle.std.specs.Prelude.{slice_get}
-use Rattle.pop_order.specs.Frames.{Frames}
+use Rattle.pop_order.specs.Frames.{Frames, TurnFrame, frame_at}
 use Rattle.pop_order.specs.Order.{IsChild, IsAtOrBelow, at, below, ComesBefore, inside, aside}
 use Rattle.pop_order.specs.Turns.{Blocks, IsAnswer, IsHolder, IsEarlierPusher as IsEarlierTurn}
 use Rattle.pop_order.specs.declared.certain.Certain.{Certain}
@@ -16,6 +16,7 @@ use Rattle.swan_model.specs.PathOrder.{comes_before}
 use Rattle.swan_model.specs.QueueFollows.{IsChildOf}
 use Rattle.swan_model.specs.QueueState.{ActiveFrame, HasTurn, IsEarlierPusher, IsOlderPopper, IsPoppingChild, QueueMaker, QueueState, active, holds_queue}
 use Rattle.swan_model.proofs.PathOrder.{before-below, before-parent, how_before, IsAside, IsBelow, left-before, left-below, left-below_other, left-sibling, not_before-under}
+use Rattle.queues.specs.Tells.{IsBlockedBy}
 use Rattle.queues.specs.Tree.{IsTree, has_queue, maker_path}
 use Rattle.queues.specs.Turned.{AreTurns, IsToldBy}
 use Rattle.queues.proofs.Above.{Climbs, climb, held_above, IsOnWay, maker_aside, maker_below, maker_of, same_front, under_maker}
@@ -121,6 +122,47 @@ module _ (state : QueueState) (tree : IsTree state) (turns : Frames) (are : AreT
           both = record { frame = a.0; active = a.1; held = a.3 };
           pops = record { frame = b.0; active = b.1; held = b.3 };
         }
+
+  -- Who keeps a frame from starting by the turns is an older sibling that pops what it pops, and all of those do.
+  pub blocked : (number older : ℕ) → Blocks turns number older → IsBlockedBy state number older
+  blocked number older is =
+      let mine_is = are.known number is.both.frame is.both.active in
+      let theirs_is = are.known older is.pops.frame is.pops.active in
+      let same = one_answer (frame_at turns number) is.both.frame is.younger.frame is.both.active is.younger.active in
+      let same_too = one_answer (frame_at turns older) is.pops.frame is.older.frame is.pops.active is.older.active in
+      record {
+        frame = mine_is.0;
+        live = mine_is.1;
+        by = record {
+          older = theirs_is.0;
+          live = theirs_is.1;
+          parent = is.parent;
+          of = mine_is.2 ∙ ap (λ (t : TurnFrame). Some t.parent) same ∙ ap Some is.younger.of;
+          sibling = theirs_is.2 ∙ ap (λ (t : TurnFrame). Some t.parent) same_too ∙ ap Some is.older.of;
+          before = let less = is.before in let own_is = active_number state number mine_is.0 mine_is.1 in omega (arith, less, own_is);
+          queue = is.queue;
+          pops = mine_is.3 is.queue Pop is.both.held;
+          pops_too = theirs_is.3 is.queue Pop is.pops.held;
+        };
+      }
+
+  pub blocks_too : (number older : ℕ) → IsBlockedBy state number older → Blocks turns number older
+  blocks_too number older is = blocks number is.frame is.live older is.by
+
+  -- What the turns answer of a child that wants to start is so among the frames.
+  pub start_told : {T : Type 0} (child : ℕ) (answer : Result T ℕ) → OnOk answer ((older : ℕ) → ¬ Blocks turns child older)
+      → OnOk answer ((older : ℕ) → ¬ IsBlockedBy state child older)
+  start_told child (Ok value) none = λ older is. none older (blocks_too child older is)
+  start_told child (Err older) none = none
+
+  pub blocker_told : {T : Type 0} (child : ℕ) (answer : Result T ℕ) → IfErr answer (Blocks turns child) → IfErr answer (IsBlockedBy state child)
+  blocker_told child (Ok value) is = is
+  blocker_told child (Err older) is = blocked child older is
+
+  pub oldest_told : {T : Type 0} (child : ℕ) (answer : Result T ℕ) → IfErr answer (λ older. (other : ℕ) → Blocks turns child other → older ≤ other)
+      → IfErr answer (λ older. (other : ℕ) → IsBlockedBy state child other → older ≤ other)
+  oldest_told child (Ok value) least = least
+  oldest_told child (Err older) least = λ other is. least other (blocks_too child other is)
 
   -- Where the turns let a frame start, it has its turn.
   pub has_turn : (number : ℕ) (frame : ActiveFrame) → active state number ≡ Some frame → ((older : ℕ) → ¬ Blocks turns number older) → HasTurn state frame

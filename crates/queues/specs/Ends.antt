@@ -1,4 +1,4 @@
--- What lent ends push and pop, and what they show of it in numbers.
+-- What lent ends push, pop and test, and what they show of it in numbers.
 use Rattle.std.specs.Prelude.{◌≡◌, ◌≢◌, ℕ, ◌+◌, ◌<◌, ◌≤◌, ◌⊎◌, true, false, Some, slice_get, Bool}
 use Rattle.swan_model.specs.declared.origin.Origin.{Origin}
 use Rattle.swan_model.specs.declared.script.Deed.TheVariants as deed
@@ -29,6 +29,11 @@ abbrev pub IsNextPop : Script → LentEnds → ℕ → Type 0
 IsNextPop s ends queue =
     (origin : Origin) → HasEnd s ends queue false origin → next_queue_deed s ends.path ends.deeds ≡ Some (deed.Pop origin)
 
+-- and a test
+abbrev pub IsNextTest : Script → LentEnds → ℕ → Type 0
+IsNextTest s ends queue =
+    (origin : Origin) → HasEnd s ends queue false origin → next_queue_deed s ends.path ends.deeds ≡ Some (deed.Test origin)
+
 -- the item that the script has for that pop: the first one that is left, and it is pushed by then in serial order
 abbrev pub IsItemNext : Script → LentEnds → Value → Type 0
 IsItemNext s ends value =
@@ -36,34 +41,47 @@ IsItemNext s ends value =
     (origin : Origin) → next_queue_deed s ends.path ends.deeds ≡ Some (deed.Pop origin)
     → (slice_get (pushes s origin) (taken s origin t) ≡ Some value) × (taken s origin t < count s origin t)
 
+-- the script has an item for that test: more is pushed by then in serial order than is taken
+abbrev pub HoldsNext : Script → LentEnds → Type 0
+HoldsNext s ends =
+    let t = queue_time s ends.path ends.deeds in
+    (origin : Origin) → next_queue_deed s ends.path ends.deeds ≡ Some (deed.Test origin) → taken s origin t < count s origin t
+
 -- ---- what an end shows of itself
 
 pub record EndCounts : Type 0 where
   -- how many items it has pushed, or popped
   pub moved : ℕ
+  -- how many of its tests have found an item
+  pub tested : ℕ
   -- how many items its ring takes
   pub size : ℕ
-  -- how often it has looked how many the other side has popped, or pushed
+  -- how often a push, a pop or a test has looked how many the other side has popped, or pushed
   pub looks : ℕ
-  -- and how many it found at its last look
+  -- how often it has looked so for no deed
+  pub glances : ℕ
+  -- and how many it found at the last look of all
   pub found : ℕ
 
--- it has looked once, at the same ring, and found no less than before
+-- for a push, a pop or a test it has looked once, at the same ring, and found no less than before
 pub record HasLooked (before after : EndCounts) : Type 0 where
   pub size : after.size ≡ before.size
   pub looks : after.looks ≡ before.looks + 1
+  pub glances : after.glances ≡ before.glances
   pub risen : before.found ≤ after.found
 
 -- A push: the look found that the ring had room.
 pub record HasPushed (before after : EndCounts) : Type 0 where
   pub looked : HasLooked before after
   pub moved : after.moved ≡ before.moved + 1
+  pub tested : after.tested ≡ before.tested
   pub room : before.moved < after.found + after.size
 
 -- the look found that as many items as the ring takes were pushed and not popped
 pub record WasFull (before after : EndCounts) : Type 0 where
   pub looked : HasLooked before after
   pub moved : after.moved ≡ before.moved
+  pub tested : after.tested ≡ before.tested
   pub full : before.moved ≡ after.found + after.size
 
 -- A push was refused: the ring was full, or the count of items has no next number.
@@ -74,12 +92,40 @@ WasRefused before after = WasFull before after ⊎ ((before.moved ≡ COUNT_MOST
 pub record HasPopped (before after : EndCounts) : Type 0 where
   pub looked : HasLooked before after
   pub moved : after.moved ≡ before.moved + 1
+  pub tested : after.tested ≡ before.tested
+  pub some : before.moved < after.found
+
+-- A test that found an item: the look found that more was pushed than popped.
+pub record HasTested (before after : EndCounts) : Type 0 where
+  pub looked : HasLooked before after
+  pub moved : after.moved ≡ before.moved
+  pub tested : after.tested ≡ before.tested + 1
   pub some : before.moved < after.found
 
 -- the look found that all that was pushed is popped
 pub record WasEmpty (before after : EndCounts) : Type 0 where
   pub looked : HasLooked before after
   pub moved : after.moved ≡ before.moved
+  pub tested : after.tested ≡ before.tested
+  pub none : before.moved ≡ after.found
+
+-- For no deed it has looked once, at the same ring, and found no less than before. What it moved, its tests and its looks for
+-- deeds stay as they were.
+pub record HasGlanced (before after : EndCounts) : Type 0 where
+  pub size : after.size ≡ before.size
+  pub looks : after.looks ≡ before.looks
+  pub glances : after.glances ≡ before.glances + 1
+  pub moved : after.moved ≡ before.moved
+  pub tested : after.tested ≡ before.tested
+  pub risen : before.found ≤ after.found
+
+-- such a look found that more was pushed than popped, or that all that was pushed is popped
+pub record ShowsItem (before after : EndCounts) : Type 0 where
+  pub glanced : HasGlanced before after
+  pub some : before.moved < after.found
+
+pub record ShowsNone (before after : EndCounts) : Type 0 where
+  pub glanced : HasGlanced before after
   pub none : before.moved ≡ after.found
 
 -- the ends but this one show what they showed

@@ -7,7 +7,7 @@ use Rattle.swan_model.specs.declared.value.Value.{Value}
 use Rattle.swan_model.specs.Lawful.{IsLawful}
 use Rattle.swan_model.specs.PathOrder.{comes_before}
 use Rattle.swan_model.specs.QueueFollows.{count_at, is_ripe_among, next_item, queue_origin, taken_at}
-use Rattle.swan_model.specs.QueueState.{ActiveFrame, QueueState, after_deed, IsEarlierPusher, IsPoppingChild, QueueRight, active, after_spawn}
+use Rattle.swan_model.specs.QueueState.{ActiveFrame, QueueState, after_deed, IsEarlierPusher, IsOlderPopper, IsPoppingChild, QueueRight, active, after_spawn}
 use Rattle.swan_model.specs.Told.{pushes, taken}
 use Rattle.queues.specs.declared.answers.Popped.{Popped}
 use Rattle.queues.specs.declared.answers.Popped.TheVariants as popped
@@ -44,6 +44,13 @@ IsCause name state frame queue (Pusher n) =
     ((other : ℕ) → ¬ IsPoppingChild state frame.number queue other)
     × IsFirstPusher state frame queue n
     × OnQueue name state queue (λ s origin. is_ripe_among s state frame queue origin ≡ false)
+
+-- An active frame has an older sibling that is active too and pops a queue which the frame pops. So it has to wait for that one
+-- before it begins to pop.
+pub record IsBlockedBy (state : QueueState) (number older : ℕ) : Type 0 where
+  pub frame : ActiveFrame
+  pub live : active state number ≡ Some frame
+  pub by : IsOlderPopper state frame older
 
 -- what a pop answers
 abbrev pub IsPopped : Option Script → QueueState → ActiveFrame → ℕ → Popped → Type 0

@@ -1,15 +1,17 @@
 // The ends of queues that a running frame has with it.
 ghost use Rattle.std.specs.Prelude.{◌≡◌, ℕ, ◌+◌, ◌<◌, Bool, true, false, List, Option, IfErr, IfSome, IfNone, OnOk, OnErr, OnSome, ◌⊎◌};
+ghost use Rattle.std.specs.Bool.{OnFalse, OnTrue};
 ghost use Rattle.std.specs.Option.{ForSome};
 ghost use Rattle.swan_model.specs.declared.script.Script.{Script};
 ghost use Rattle.swan_model.specs.Lawful.{IsLawful};
 ghost use Rattle.swan_model.specs.Values.{COUNT_MOST};
 ghost use Rattle.queues.specs.Asks.{IsSameRun, LentEnds, has_end, with_deeds};
-ghost use Rattle.queues.specs.Ends.{AreOtherCounts, EndCounts, HasPopped, HasPushed, IsNextPush, IsNextPop, IsItemNext, WasEmpty, WasRefused};
+ghost use Rattle.queues.specs.Ends.{AreOtherCounts, EndCounts, HasPopped, HasPushed, HasTested, HoldsNext, IsNextPush, IsNextPop, IsNextTest, IsItemNext, ShowsItem, ShowsNone, WasEmpty, WasRefused};
 
 use swan_model::Value;
 
-/// The ends that a running frame has with it. It pushes and pops by them without asking the queues.
+/// The ends that a running frame has with it. It pushes, pops and tests by them without asking the
+/// queues. A test by ends is a deed only where it finds an item: no end tells that a queue is empty.
 pub trait LocalEnds: Send + Drop {
     /// The script of the run's name, where it has one.
     ghost name: { Self → Option Script };
@@ -20,8 +22,9 @@ pub trait LocalEnds: Send + Drop {
     /// What they are.
     ghost ends: { Self → LentEnds };
 
-    /// What each of them shows of itself in numbers, by its queue and whether it pushes: how many items it has pushed
-    /// or popped, how many its ring takes, how often it has looked at the other side's count, and what it found last.
+    /// What each of them shows of itself in numbers, by its queue and whether it pushes: how many items
+    /// it has pushed or popped, how many tests have found one, how many its ring takes, how often it has
+    /// looked at the other side's count, for a deed and for none, and what it found last.
     ghost counts: { Self → ℕ → Bool → EndCounts };
 
     /// Pushes to a queue, where there is an end for that. Err hands the value back and does nothing: it
@@ -64,6 +67,43 @@ pub trait LocalEnds: Send + Drop {
         // what it leaves
         ensures some { OnSome result (ends self.new ≡ with_deeds (ends self.old) ((ends self.old).deeds + 1)) }
         ensures none { IfNone result (ends self.new ≡ ends self.old) }
+        ensures others { AreOtherCounts (counts self.old) (counts self.new) queue false }
+        ensures same { IsSameRun name run self.old self.new };
+
+    /// Tests whether a queue has an item, where there is an end to pop from it. True is the frame's deed:
+    /// in serial order the queue has an item at this step. None is taken. False is no deed and doesn't say
+    /// that the queue is empty: it comes only where no consumer of that queue is there, or its ring was
+    /// empty at a step of this call.
+    fn test(&mut self, queue: u32) -> bool
+        // what the frame may do
+        requires room { (ends self.old).deeds < COUNT_MOST }
+
+        // where there is a script
+        requires next { ForSome (name self.old) (λ s. IsNextTest s (ends self.old) queue) }
+
+        // what is answered, and why it can't be told
+        ensures holds { OnTrue result (ForSome (name self.old) (λ s. IsLawful s → HoldsNext s (ends self.old))) }
+        ensures by_end { OnTrue result (has_end (ends self.old) queue false ≡ true) }
+        ensures tested { OnTrue result (HasTested (counts self.old queue false) (counts self.new queue false)) }
+        ensures cause { OnFalse result ((has_end (ends self.old) queue false ≡ false) ⊎ WasEmpty (counts self.old queue false) (counts self.new queue false)) }
+
+        // what it leaves
+        ensures found { OnTrue result (ends self.new ≡ with_deeds (ends self.old) ((ends self.old).deeds + 1)) }
+        ensures none { OnFalse result (ends self.new ≡ ends self.old) }
+        ensures others { AreOtherCounts (counts self.old) (counts self.new) queue false }
+        ensures same { IsSameRun name run self.old self.new };
+
+    /// Whether the consumer of a queue finds an item now, for whoever has the frame, whatever its next
+    /// deed is. It is no deed. True comes only where that end is there, and found one at a step of this
+    /// call; false only where it isn't there, or its ring was empty at a step of this call.
+    fn finds(&mut self, queue: u32) -> bool
+        // what is answered, and by which look
+        ensures by_end { OnTrue result (has_end (ends self.old) queue false ≡ true) }
+        ensures some { OnTrue result (ShowsItem (counts self.old queue false) (counts self.new queue false)) }
+        ensures none { OnFalse result ((has_end (ends self.old) queue false ≡ false) ⊎ ShowsNone (counts self.old queue false) (counts self.new queue false)) }
+
+        // what it leaves
+        ensures after { ends self.new ≡ ends self.old }
         ensures others { AreOtherCounts (counts self.old) (counts self.new) queue false }
         ensures same { IsSameRun name run self.old self.new };
 }

@@ -41,9 +41,9 @@ pub fn points_of_queues_agree()
 
 /// The law that calls lead from hyperqueues that follow a script to such that follow it. New ones follow each
 /// script. Root queues are made first, with the script's lists. After that a frame makes a queue, spawns a child,
-/// or pushes, pops and tests, where that is its next deed of queues in the script; or it does several pushes and
-/// pops by the ends that were lent to it. A frame that has no active child may finish, and then its task counts as
-/// done.
+/// or pushes, pops and tests, where that is its next deed of queues in the script; or it does several pushes, pops
+/// and tests by the ends that were lent to it. A frame that has no active child may finish, and then its task
+/// counts as done.
 pub fn calls_follow()
     // the start, and a queue that is made
     ensures start { (s : Script) → IsLawful s → QueuesFollow s new_state }

@@ -3,7 +3,7 @@
 //! A frame is one task of a run. `Queues` is what its frames use: they make queues, spawn children that may
 //! push or pop, push, pop and test. Frames act in any order that their spawns and syncs allow, and yet each is
 //! answered what it is answered in serial order, or is told for whom it has to wait. `LocalEnds` are the ends
-//! that a running frame has with it, by which it pushes and pops without asking the queues.
+//! that a running frame has with it, by which it pushes, pops and tests without asking the queues.
 //!
 //! Contracts see hyperqueues as a name, which means a script or nothing, as a run, and as a state of plain data:
 //! the active frames, what each holds and how many deeds of queues it has done, and what made each queue. Each

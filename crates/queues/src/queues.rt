@@ -10,7 +10,7 @@ ghost use Rattle.swan_model.specs.QueueFollows.{next_queue_deed, AreByEnds, IsNe
 ghost use Rattle.swan_model.specs.QueueState.{active, after_back, after_create, after_create_root, after_deed, after_finish, after_lend, after_spawn, after_take_rest, ActiveFrame, IsUntouched, LentEnd, QueueState};
 ghost use Rattle.swan_model.specs.Segments.{segment_queue};
 ghost use Rattle.queues.specs.Asks.{HasRoom, IsRestLeft, is_emptied, IsOnTurn, IsRecorded, IsSameRun, MayDo, MayJoin, MayLook, MaySpawn, MayUse, OnActive, OnNext, has_end};
-ghost use Rattle.queues.specs.Tells.{OnQueue, IsPopped, after_pop, IsTested, after_test, rest_of};
+ghost use Rattle.queues.specs.Tells.{IsBlockedBy, OnQueue, IsPopped, after_pop, IsTested, after_test, rest_of};
 
 use crate::{LocalEnds, Popped, QueueGive, Tested};
 use swan_model::{NoMemory, Value, Values};
@@ -71,6 +71,15 @@ pub trait Queues: Send + Drop {
         ensures number { IfOk result (λ queue. queue ≡ length (state self.old).makers) }
         ensures ok { OnOk result (OnActive (state self.old) frame (λ f. state self.new ≡ after_create (state self.old) f)) }
         ensures same { IsSameRun name run self.old self.new };
+
+    /// Whether a child may begin to pop: Ok exactly where no older sibling is active that pops a queue
+    /// which the child pops, and else Err with the oldest of those. It is Ok for a frame that isn't active.
+    /// It takes no memory.
+    fn may_start(&self, child: u64) -> Result<(), u64>
+        // who has its turn, and whom another one waits for
+        ensures ok { OnOk result ((older : ℕ) → ¬ IsBlockedBy (state self.now) child older) }
+        ensures blocked { IfErr result (IsBlockedBy (state self.now) child) }
+        ensures oldest { IfErr result (λ older. (other : ℕ) → IsBlockedBy (state self.now) child other → older ≤ other) };
 
     /// Makes a child of the parent, which may use these queues. It is called at each spawn, with no gives
     /// where the child gets no queue. The child's number is above all before; the parent holds each queue by the mode by which it

@@ -1,5 +1,5 @@
 // Laws of the turns of poppers beside hyperqueues.
-ghost use Rattle.std.specs.Prelude.{◌≡◌, ℕ, ◌++◌, ◌∷◌, List, [], Some, false, true};
+ghost use Rattle.std.specs.Prelude.{◌≡◌, ◌↔◌, ℕ, ◌++◌, ◌∷◌, List, [], Some, false, true};
 ghost use Rattle.pop_order.specs.Frames.{AreUpTo, Frames, HasNoChild, MayBeEnlisted, frames_after_enlist, frames_after_lend, without};
 ghost use Rattle.pop_order.specs.Order.{ComesBefore};
 ghost use Rattle.pop_order.specs.Turns.{Blocks, IsAnswer};
@@ -8,6 +8,7 @@ ghost use Rattle.swan_model.specs.declared.rights.Mode.{Mode};
 ghost use Rattle.swan_model.specs.PathOrder.{comes_before};
 ghost use Rattle.swan_model.specs.QueueState.{ActiveFrame, HasTurn, IsUntouched, LentEnd, QueueRight, QueueState, active, after_back, after_create, after_create_root, after_deed, after_finish, after_lend, after_spawn, after_take_rest, holds_queue, new_state};
 ghost use Rattle.queues.specs.Asks.{MayDo, MayJoin, MaySpawn};
+ghost use Rattle.queues.specs.Tells.{IsBlockedBy};
 ghost use Rattle.queues.specs.Tree.{has_queue};
 ghost use Rattle.queues.specs.Turned.{AreApart, AreGivenTurns, AreOlder, AreTurns, IsToldBy, OnTreeTurns, OnTurns, gives_queue, holding_of};
 
@@ -46,16 +47,19 @@ pub fn turns_stay()
     ensures take_rest { OnTurns (λ state turns. (queue : ℕ) → AreTurns (after_take_rest state queue) turns) }
 {}
 
-/// The law that turns which are those of a state tell what its frames are. Where no frame keeps another one from starting,
-/// that one has its turn; and who does is active, and comes first in serial order. Who comes first by the turns comes
-/// first by its path, and, of two frames that may use one queue, the other way round. So `certain` answers whom a wait
-/// would name, or that there is none to wait for; whether the next item is ripe all the same, turns don't tell.
+/// The law that turns which are those of a state tell what its frames are. Where no frame keeps another one
+/// from starting, that one has its turn; and who does is active, and comes first in serial order. By the turns
+/// a frame keeps another one from starting exactly where it does so by the state, as an older sibling that pops
+/// what that one pops. Who comes first by the turns comes first by its path, and, of two frames that may use
+/// one queue, the other way round. So `certain` answers whom a wait would name, or that there is none to wait
+/// for; whether the next item is ripe all the same, turns don't tell.
 pub fn turns_tell_who_may_pop()
     // who may start, and who keeps another one from it
     ensures start { OnTreeTurns (λ state turns. (n : ℕ) (frame : ActiveFrame) → active state n ≡ Some frame
         → ((older : ℕ) → ¬ Blocks turns n older) → HasTurn state frame) }
     ensures blocker { OnTreeTurns (λ state turns. (n older : ℕ) (frame : ActiveFrame) → active state n ≡ Some frame → Blocks turns n older
         → (blocker : ActiveFrame) × (active state older ≡ Some blocker) × (comes_before blocker.path frame.path ≡ true)) }
+    ensures blocks { OnTreeTurns (λ state turns. (n older : ℕ) → Blocks turns n older ↔ IsBlockedBy state n older) }
 
     // who comes first, by the turns and by the paths
     ensures earlier { OnTreeTurns (λ state turns. (n m : ℕ) (earlier later : ActiveFrame) → active state n ≡ Some earlier → active state m ≡ Some later

@@ -1,4 +1,4 @@
-use Rattle.queues.proofs.TurnsTold.{before_turns, blocker_before, certain_told, has_turn, turns_before}
+use Rattle.queues.proofs.TurnsTold.{before_turns, blocked, blocker_before, blocks_too, certain_told, has_turn, turns_before}
 use Rattle.queues.proofs.turn_laws.turns_tell_who_may_pop.Goals as goal
 
 pub returns-clause-start : goal.returns-clause-start
@@ -6,6 +6,9 @@ returns-clause-start c state turns tree is n frame live none = has_turn state tr
 
 pub returns-clause-blocker : goal.returns-clause-blocker
 returns-clause-blocker c state turns tree is n older frame live blocks = blocker_before state tree turns is n older frame live blocks
+
+pub returns-clause-blocks : goal.returns-clause-blocks
+returns-clause-blocks c state turns tree is n older = (blocked state tree turns is n older, blocks_too state tree turns is n older)
 
 pub returns-clause-earlier : goal.returns-clause-earlier
 returns-clause-earlier c state turns tree is n other frame also live too before = turns_before state tree turns is n other frame also before live too
