@@ -1,5 +1,5 @@
 -- All workers of an opening, as they take turns.
-use Rattle.std.proofs.Common.{◌≡◌, ◌||◌, ⊎_elim, ℕ, ◌<◌, Bool, true, false, true≢false, Some, IsTrue, IfOk, Result, Ok, Err, List, [], ◌∷◌, ◌++◌, All, arith, ap, drop, length, refl, set, slice_get, slice_index_or, subst, sym, take, ◌∙◌}
+use Rattle.std.proofs.Common.{◌≡◌, ⊎_elim, ℕ, ◌<◌, Bool, true, false, true≢false, Some, IsTrue, IfOk, Result, Ok, Err, List, [], ◌∷◌, ◌++◌, All, arith, ap, drop, length, refl, set, slice_get, slice_index_or, subst, sym, take, ◌∙◌}
 use Rattle.std.specs.Arc.{arc_value}
 use Rattle.std.proofs.Math.Seq.{take-append_seam}
 use Rattle.std.proofs.lemmas.Bool.{or_from, or_parts}
