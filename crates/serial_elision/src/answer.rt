@@ -9,7 +9,8 @@ use swan_model::{Answer, Ask, FaultKind, NoMemory};
 
 impl Store {
     /// Answers an ask of one who holds this, where it is about objects and queues at places, or about
-    /// nothing. A Sync comes back as Synced, and any other ask as Own; neither has had an effect. `O(1)` amortised; a record shares its bytes.
+    /// nothing. A Sync comes back as Synced, and any other ask as Own; neither has had an effect. `O(1)`
+    /// amortised; a record shares its bytes.
     #[inline(always)]
     pub fn answer<L>(&mut self, holdings: &[Holding], ask: Ask<L>) -> Result<Reply<L>, NoMemory>
         ensures { (n : ℕ) (a : Activation L) → a.holdings ≡ holdings.now → IfOk result (λ reply.

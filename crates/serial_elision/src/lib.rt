@@ -9,10 +9,12 @@
 //!
 //! - `elide` answers the outcome of the definitions, or that memory ran out, and it returns.
 //! - The elision of each plan ends, by the law `elision_ends`.
-//! - A fault ends its task and nothing else, the faults are in serial order, and a step changes only
-//!   what its task holds so, by the laws `a_fault_ends_its_task`, `faults_are_in_order` and
-//!   `rights_bind`. The faults that are left are those of tasks' last steps, by the law
-//!   `faults_are_those_of_last_steps`.
+//! - A fault ends its task, is counted at the task's parent, and does nothing else; the faults are in serial
+//!   order, and a step changes only what its task holds so, by the laws `a_fault_ends_its_task`,
+//!   `faults_are_in_order` and `rights_bind`. The faults that are left are those of tasks' last steps, by the
+//!   law `faults_are_those_of_last_steps`.
+//! - A Sync is told how many of its task's children failed since the task's last Sync. Those are the children
+//!   that have a fault among the faults that are left, by the law `caught_are_counted`.
 //! - A task goes on by its own steps, whatever the tasks beside it do, and what it holds keeps its name, by the laws
 //!   `tasks_go_on` and `names_stay`. What each step makes of its task, and which deed of the script it is, is said by
 //!   the ask, by the laws `asks_are_answered`, `some_steps_end_their_task` and `a_spawn_makes_its_child`. Nothing is

@@ -6,7 +6,8 @@ use swan_model::{Answer, Child, FaultKind, Trouble, Value};
 pub enum Reply<L> {
     /// Its task goes on, and its next step is told this.
     Told(Answer),
-    /// Its task goes on. Its next step is told how many of the task's children failed, and the task counts anew.
+    /// Its task goes on. Its next step is told how many of the task's children failed, and the task counts
+    /// anew.
     Synced,
     /// Its task ends by this fault.
     Fault(FaultKind),

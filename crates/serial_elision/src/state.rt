@@ -136,7 +136,8 @@ impl<L: Drop> State<L> {
         }
     }
 
-    /// Books a fault of a task that was taken off the stack, and counts it at the task's parent. `O(1)` amortised.
+    /// Books a fault of a task that was taken off the stack, and counts it at the task's parent. `O(1)`
+    /// amortised.
     fn book(&mut self, path: Path, place: u64, kind: FaultKind) -> Result<(), NoMemory>
         requires { MayFail self.old.stack }
         ensures { OnOk result (self.new ≡ record self.old {

@@ -39,9 +39,10 @@ use swan_model::Body;
 /// The law that a task goes on by its own steps. The root stands at its first step. Where a task stands at a
 /// step of its own, and the step neither ends it nor spawns, it stands at its next step as this step left it;
 /// after a spawn it does so once the child has ended, as the spawn left it, but for one more failed child where
-/// the child ended by a fault; and the child stands at its first step as it was made. A step that ends a task is its last one. A task stands at each step that it has, as one
-/// activation alone, and at a later step as the one before has left it. So what a task is at a step depends on
-/// nothing but its own steps, and on what they were told.
+/// the child ended by a fault; and the child stands at its first step as it was made. A step that ends a task
+/// is its last one. A task stands at each step that it has, as one activation alone, and at a later step as the
+/// one before has left it. So what a task is at a step depends on nothing but its own steps, on what they were
+/// told, and on which of its children failed.
 pub fn tasks_go_on<B: Body>()
     // where the root begins
     ensures root { (plan : Plan B B.Local) → StandsAt B.Body plan [] 0 (root plan) }
@@ -66,9 +67,10 @@ pub fn tasks_go_on<B: Body>()
         × (top ≡ once_ended (outcome B.Body plan).faults parent child))) }
 {}
 
-/// The law of failed children. A task's children are those that the script has it spawn before its step. Its failed children
-/// are those among the children since its last Sync that ended by a fault: each such child has a fault in what is left, and
-/// no other one has. So what a Sync is told can be counted by faults, whatever has become of them by then.
+/// The law of failed children. A task's children are those that the script has it spawn before its step. Its
+/// failed children are those among the children since its last Sync that ended by a fault: each such child has
+/// a fault in what is left, and no other one has. So what a Sync is told can be counted by faults, whatever has
+/// become of the children by then.
 pub fn caught_are_counted<B: Body>()
     ensures children { OnStep B.Body (λ at. at.top.children ≡ children_by (script B.Body at.plan) at.path at.k) }
     ensures failed { OnStep B.Body (λ at.
@@ -100,9 +102,9 @@ pub fn names_stay<B: Body>()
         → slice_get (gives_at B.Body plan [] 0 (root plan)) (length plan.roots.queues + i) ≡ Some (Some (record { origin = Root i; mode = InOut })) }
 {}
 
-/// The law of what each ask is answered, and of the deed that the script has for it. Work is answered with nothing, and the wait
-/// for children with how many of them failed since the last one; a read with the value that the script tells of the object at this time; a
-/// write and a push with nothing; a pop with the queue's next item, where one is left; the test of a queue with
+/// The law of what each ask is answered, and of the deed that the script has for it. Work is answered with
+/// nothing, and the wait for children with how many of them failed since the last one; a read with the value
+/// that the script tells of the object at this time; a write and a push with nothing; a pop with the queue's next item, where one is left; the test of a queue with
 /// whether none is left; and who makes a queue or an object is told its new place. Whoever is answered holds the
 /// same as before, by the same names, and a maker one place more, which has the name of this step. Asked is that the
 /// plan's lists are within their bounds, as those of each plan that is made are.
