@@ -102,12 +102,13 @@ pub fn names_stay<B: Body>()
         → slice_get (gives_at B.Body plan [] 0 (root plan)) (length plan.roots.queues + i) ≡ Some (Some (record { origin = Root i; mode = InOut })) }
 {}
 
-/// The law of what each ask is answered, and of the deed that the script has for it. Work is answered with nothing, and the wait
-/// for children with how many of them failed since the last one; a read with the value that the script tells of the object at this time; a
-/// write and a push with nothing; a pop with the queue's next item, where one is left; the test of a queue with
-/// whether none is left; and who makes a queue or an object is told its new place. Whoever is answered holds the
-/// same as before, by the same names, and a maker one place more, which has the name of this step. Asked is that the
-/// plan's lists are within their bounds, as those of each plan that is made are.
+/// The law of what each ask is answered, and of the deed that the script has for it. Work is answered with
+/// nothing, and the wait for children with how many of them failed since the last one; a read with the value
+/// that the script tells of the object at this time; a write and a push with nothing; a pop with the queue's
+/// next item, where one is left; the test of a queue with whether none is left; and who makes a queue or an
+/// object is told its new place. Whoever is answered holds the same as before, by the same names, and a maker
+/// one place more, which has the name of this step. Asked is that the plan's lists are within their bounds, as
+/// those of each plan that is made are.
 pub fn asks_are_answered<B: Body>()
     // what changes nothing for others
     ensures work { OnBoundedAsk B.Body ask.Work (λ at. AnswersWith B.Body at answer.Nothing deed.Quiet) }
