@@ -116,14 +116,14 @@ module _ {E O : Type 0} (index : E → ℕ) (of : E → O) (HasRoom : O → ℕ 
   looks_head slots id v c may idle = allows slots id (v, c) 0 (λ n. n) (saw_head (step slots 0 0 0 none) (v, c)) (λ p hs vs g len at. let all = g.each id v at in let mine = all.0 may in let same = mine.1 in
       let order = g.counts.order in let room = g.counts.room in let rested : p.putting ≡ false = sym mine.2 ∙ idle in
       dite (dec_le (p.head + size) p.tail)
-      (λ full. let w : SeatView O = record v { looks = v.looks + 1; misses = v.misses + 1 } in (
+      (λ full. let w : SeatView O = record v { looks = v.looks + 1; misses = v.misses + 1; found = p.head } in (
         w,
         keeps,
         tt,
-        only_view p hs vs id w (words_of p.head p.tail) refl g all,
-        (omega arith, (λ l. absurd (omega arith)), λ _. (omega arith, refl)),
+        only_view p hs vs id w (words_of p.head p.tail) refl g ((λ m. let h = all.0 m in (h.0, h.1, h.2, h.3, h.4, omega arith)), all.1, all.2, all.3),
+        (omega arith, (λ l. absurd (omega arith)), (λ _. (omega arith, refl)), mine.5),
       ))
-      (λ some_room. let w : SeatView O = record v { putting = true; looks = v.looks + 1 } in let x = g.slots.free p.tail (omega arith) (omega arith) (λ t. true≢false (sym t.0 ∙ rested)) in
+      (λ some_room. let w : SeatView O = record v { putting = true; looks = v.looks + 1; found = p.head } in let x = g.slots.free p.tail (omega arith) (omega arith) (λ t. true≢false (sym t.0 ∙ rested)) in
       let k : v.pushed % slots ≡ p.tail % size = ap (λ (n : ℕ × ℕ). n.0 % n.1) (λ i. (same i, len i)) in let q : RingState = record p { putting = true } in (
         w,
         takes (v.pushed % slots) x.0,
@@ -133,9 +133,9 @@ module _ {E O : Type 0} (index : E → ℕ) (of : E → O) (HasRoom : O → ℕ 
           words = refl;
           counts = record { some_size = g.counts.some_size; order = order; room = room; puts = λ _. omega arith; takes = g.counts.takes; inside = g.counts.inside };
           slots = slots_without_free p hs g.counts g.slots rested (omega arith) (v.pushed % slots) k;
-          each = all_set (SeatKnows owner q) vs id w ((λ m. let h = all.0 m in (h.0, h.1, refl, h.3, h.4)), all.1, all.2, all.3) (λ j u ne e. let h = g.each j u e in ((λ m. absurd (ne ((h.0 m).0 ∙ sym mine.0))), h.1, h.2, h.3));
+          each = all_set (SeatKnows owner q) vs id w ((λ m. let h = all.0 m in (h.0, h.1, refl, h.3, h.4, omega arith)), all.1, all.2, all.3) (λ j u ne e. let h = g.each j u e in ((λ m. absurd (ne ((h.0 m).0 ∙ sym mine.0))), h.1, h.2, h.3));
         },
-        (omega arith, (λ _. (x.0, refl)), λ l. absurd (omega arith)),
+        (omega arith, (λ _. (x.0, refl)), (λ l. absurd (omega arith)), mine.5),
       )))
 
   -- what is known of all pushes is said of a ring with no push to come
@@ -158,7 +158,7 @@ module _ {E O : Type 0} (index : E → ℕ) (of : E → O) (HasRoom : O → ℕ 
           words = refl;
           counts = record { some_size = g.counts.some_size; order = omega arith; room = omega arith; puts = λ b. absurd (true≢false (sym b)); takes = λ b. let h = g.counts.takes b in omega arith; inside = subst (λ (o : O). HasRoom o new) owns inside };
           slots = slots_with_item p hs g.counts g.slots room (v.pushed % slots) k e (at_index ∙ same) owns new (omega arith);
-          each = all_set (SeatKnows owner q) vs id w ((λ m. let h = all.0 m in (h.0, sym next, refl, h.3, h.4)), all.1, omega (arith, all.2, same, next), not_all v.all p new still all.3)
+          each = all_set (SeatKnows owner q) vs id w ((λ m. let h = all.0 m in (h.0, sym next, refl, h.3, h.4, h.5)), all.1, omega (arith, all.2, same, next), not_all v.all p new still all.3)
               (λ j u ne e'. let h = g.each j u e' in ((λ m. absurd (ne ((h.0 m).0 ∙ sym mine.0))), h.1, omega (arith, h.2, same, next), not_all u.all p new still h.3));
         },
         refl,
@@ -221,7 +221,7 @@ module _ {E O : Type 0} (index : E → ℕ) (of : E → O) (HasRoom : O → ℕ 
           words = refl;
           counts = record { some_size = g.counts.some_size; order = omega arith; room = omega arith; puts = λ b. let h = g.counts.puts b in omega arith; takes = λ b. absurd (true≢false (sym b)); inside = g.counts.inside };
           slots = slots_with_free p hs g.counts g.slots some_item (v.popped % slots) k new (omega arith);
-          each = all_set (SeatKnows owner q) vs id w (all.0, (λ m. let h = all.1 m in (h.0, sym next, refl, h.3)), all.2, all.3) (λ j u ne e. let h = g.each j u e in (h.0, (λ m. absurd (ne ((h.1 m).0 ∙ sym mine.0))), h.2, h.3));
+          each = all_set (SeatKnows owner q) vs id w ((λ m. let h = all.0 m in let less = h.5 in (h.0, h.1, h.2, h.3, h.4, omega arith)), (λ m. let h = all.1 m in (h.0, sym next, refl, h.3)), all.2, all.3) (λ j u ne e. let h = g.each j u e in ((λ m. let k = h.0 m in let less = k.5 in (k.0, k.1, k.2, k.3, k.4, omega arith)), (λ m. absurd (ne ((h.1 m).0 ∙ sym mine.0))), h.2, h.3));
         },
         refl,
       )))
@@ -270,7 +270,7 @@ module _ {E O : Type 0} (index : E → ℕ) (of : E → O) (HasRoom : O → ℕ 
         counts = record { some_size = r.counts.some_size; order = r.counts.order; room = r.counts.room; puts = r.counts.puts; takes = r.counts.takes; inside = r.counts.inside };
         slots = record { count = r.slots.count; full = r.slots.full; free = r.slots.free };
         each = λ j u e. ⊎_elim
-            (all_set (SeatKnows owner q) s.views id l ((λ m. let h = mine.0 m in (h.0, h.1, h.2, refl, h.4)), mine.1, mine.2, λ n e. ((mine.3 n e).0, refl))
+            (all_set (SeatKnows owner q) s.views id l ((λ m. let h = mine.0 m in (h.0, h.1, h.2, refl, h.4, h.5)), mine.1, mine.2, λ n e. ((mine.3 n e).0, refl))
             (λ j u ne e. let h = r.each j u e in ((λ m. absurd (ne ((h.0 m).0 ∙ sym (mine.0 may).0))), h.1, h.2, λ n e. ((h.3 n e).0, refl))) j u)
             (λ (is : o ≡ u). subst (SeatKnows owner q j) is (knows_idle q j v.pushed (Some v.pushed) (omega arith) (λ m e. (sym (same_Some v.pushed m e) ∙ same, refl)))) (at_snoc (set s.views id l) o u j e);
       }
@@ -313,7 +313,7 @@ module _ {E O : Type 0} (index : E → ℕ) (of : E → O) (HasRoom : O → ℕ 
     words = refl;
     counts = record { some_size = some_size; order = omega arith; room = omega arith; puts = λ b. absurd (true≢false (sym b)); takes = λ b. absurd (true≢false (sym b)); inside = inside };
     slots = record { count = that_many size; full = λ i a b _. absurd (omega arith); free = λ i a b _. (None, all_at_home size (i % size) (mod-lt i some_size)) };
-    each = λ j u e. let o = only_one (opening_view owner) j u e in subst (SeatKnows owner p j) o.1 ((λ _. (o.0, refl, refl, refl, refl)), (λ _. (o.0, refl, refl, refl)), omega arith, λ m e. absurd (cc));
+    each = λ j u e. let o = only_one (opening_view owner) j u e in subst (SeatKnows owner p j) o.1 ((λ _. (o.0, refl, refl, refl, refl, omega arith)), (λ _. (o.0, refl, refl, refl)), omega arith, λ m e. absurd (cc));
   }
 
 pub carried : {X : Type 0} (l c : List (ℕ × X)) (k k' : ℕ) (x : X) → l ≡ (k, x) ∷ c → k ≡ k' → l ≡ (k', x) ∷ rest l

@@ -15,6 +15,8 @@ pub record SegmentShown : Type 0 where
   pub id : SegmentId
   -- the caller's own number for it
   pub key : ℕ
+  -- how many items its ring takes
+  pub size : ℕ
   -- what no other segment has
   pub table : TableId
 
@@ -25,12 +27,14 @@ pub record ProducerState : Type 0 where
   -- how often it has looked how much was popped, and how often the ring was full then
   pub looks : ℕ
   pub fulls : ℕ
+  -- and how much it found at its last look
+  pub found : ℕ
 
 pub record ConsumerState : Type 0 where
   pub of : SegmentShown
   -- how many items it has popped
   pub popped : ℕ
-  -- so many, at least, it knows to have been pushed
+  -- so many, at least, it knows to have been pushed: what it found at its last look, or what a note told since then
   pub known : ℕ
   -- how many are ever pushed, where it has learnt that
   pub all : Option ℕ
@@ -53,19 +57,25 @@ pub record NoteState : Type 0 where
   pub all : Option ℕ
 
 abbrev pub new_producer : SegmentShown → ProducerState
-new_producer of = record { of = of; pushed = 0; looks = 0; fulls = 0 }
+new_producer of = record { of = of; pushed = 0; looks = 0; fulls = 0; found = 0 }
 
 abbrev pub new_consumer : SegmentShown → ConsumerState
 new_consumer of = record { of = of; popped = 0; known = 0; all = None; looks = 0; empties = 0 }
 
--- a push after which there is one item more
-abbrev pub after_push : ProducerState → ProducerState
-after_push old = record old { pushed = old.pushed + 1; looks = old.looks + 1 }
+-- a push after which there is one item more, which found so many popped
+abbrev pub after_push : ProducerState → (popped : ℕ) → ProducerState
+after_push old popped = record old { pushed = old.pushed + 1; looks = old.looks + 1; found = popped }
 
--- A push was refused: it looked once, and the ring was full then; or its count has no next number.
+-- A push was refused: it looked once, and found that as many items as the ring takes were pushed and not popped.
+pub record WasFull (old new : ProducerState) : Type 0 where
+  pub state : new ≡ record old { looks = old.looks + 1; fulls = old.fulls + 1; found = new.found }
+  pub risen : old.found ≤ new.found
+  pub full : old.pushed ≡ new.found + old.of.size
+
+-- A push was refused: the ring was full; or its count has no next number.
 abbrev pub WasRefused : ProducerState → ProducerState → Type 0
 WasRefused old new =
-    (new ≡ record old { looks = old.looks + 1; fulls = old.fulls + 1 }) ⊎ ((old.pushed ≡ COUNT_MOST) × (new ≡ old))
+    WasFull old new ⊎ ((old.pushed ≡ COUNT_MOST) × (new ≡ old))
 
 -- a look that found so many items pushed
 abbrev pub after_look : ConsumerState → (pushed : ℕ) → ConsumerState

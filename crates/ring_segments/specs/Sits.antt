@@ -40,10 +40,10 @@ pub record IsPopping (ring : Ring) (seat : RingSeat) (popped : ℕ) : Type 0 whe
 
 -- what an end of the segment shows of it
 abbrev pub shown_of : Ring → SegmentShown
-shown_of ring = record { id = id_of ring.about; key = ring.about.key; table = ring.table.shared.table_id }
+shown_of ring = record { id = id_of ring.about; key = ring.about.key; size = ring.about.size; table = ring.table.shared.table_id }
 
 abbrev pub producer_state : Ring → SeatView SegmentId → ProducerState
-producer_state ring v = record { of = shown_of ring; pushed = v.pushed; looks = v.looks; fulls = v.misses }
+producer_state ring v = record { of = shown_of ring; pushed = v.pushed; looks = v.looks; fulls = v.misses; found = v.found }
 
 abbrev pub consumer_state : Ring → SeatView SegmentId → ConsumerState
 consumer_state ring v = record {

@@ -27,6 +27,7 @@ module _ {O : Type 0} where
     sealed = false;
     looks = 0;
     misses = 0;
+    found = 0;
     known = known;
     all = all;
     owner = None;
@@ -85,7 +86,7 @@ pub record RingState : Type 0 where
 -- what a seat knows is so
 abbrev pub SeatKnows : {O : Type 0} → O → RingState → ℕ → SeatView O → Type 0
 SeatKnows owner p j v =
-    (v.pushes ≡ true → (j ≡ p.writer) × (v.pushed ≡ p.tail) × (v.putting ≡ p.putting) × (v.sealed ≡ p.sealed) × (v.owner ≡ Some owner))
+    (v.pushes ≡ true → (j ≡ p.writer) × (v.pushed ≡ p.tail) × (v.putting ≡ p.putting) × (v.sealed ≡ p.sealed) × (v.owner ≡ Some owner) × (v.found ≤ p.head))
     × (v.pops ≡ true → (j ≡ p.reader) × (v.popped ≡ p.head) × (v.taking ≡ p.taking) × (v.owner ≡ Some owner))
     × (v.known ≤ p.tail)
     × ForSome v.all (λ n. (n ≡ p.tail) × (p.sealed ≡ true))
@@ -122,8 +123,9 @@ module _ {E O : Type 0} where
   abbrev pub saw_head : Step (Option E) → Me (Option E) (SeatView O) → ℕ → Me (Option E) (SeatView O) → Type 0
   saw_head st m found m' =
       (found ≤ m.0.pushed)
-      × (m.0.pushed < found + st.slots → (x : Option E) × (m' ≡ (record m.0 { putting = true; looks = m.0.looks + 1 }, (m.0.pushed % st.slots, x) ∷ m.1)))
-      × (found + st.slots ≤ m.0.pushed → (m.0.pushed ≡ found + st.slots) × (m' ≡ (record m.0 { looks = m.0.looks + 1; misses = m.0.misses + 1 }, m.1)))
+      × (m.0.pushed < found + st.slots → (x : Option E) × (m' ≡ (record m.0 { putting = true; looks = m.0.looks + 1; found = found }, (m.0.pushed % st.slots, x) ∷ m.1)))
+      × (found + st.slots ≤ m.0.pushed → (m.0.pushed ≡ found + st.slots) × (m' ≡ (record m.0 { looks = m.0.looks + 1; misses = m.0.misses + 1; found = found }, m.1)))
+      × (m.0.found ≤ found)
 
   -- the item went into its slot, and the tail went on
   abbrev pub put : Step (Option E) → Me (Option E) (SeatView O) → ℕ → Me (Option E) (SeatView O) → Type 0

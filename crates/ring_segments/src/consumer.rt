@@ -119,6 +119,14 @@ impl Consumer {
         self.ring.about.key
     }
 
+    /// How many items its ring takes. It takes no memory. `O(1)`.
+    pub fn size(&self) -> u64
+        ensures size { result ≡ self.now.of.size }
+        ensures some { 1 ≤ result }
+    {
+        self.ring.about.size
+    }
+
     /// How many items were popped. It takes no memory. `O(1)`.
     pub fn popped(&self) -> u64
         ensures { result ≡ self.now.popped }

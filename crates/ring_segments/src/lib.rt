@@ -8,8 +8,9 @@
 //!
 //! Promised, and proved of each call in whatever order the steps of the two ends come: `pop` gives the item that stands
 //! at `popped` of the list that is owed, before the segment's end, and `push` refuses only where the ring was full when
-//! the call looked, or where as many items were pushed as a number of 64 bits can count. A `Note` carries to the consumer how much was pushed when it was made, and from then on the
-//! consumer finds that much. A `Link` ends a segment: it keeps the consumer of the next one, which owes the rest of the
+//! the call looked, or where as many items were pushed as a number of 64 bits can count. A ring has as many places as
+//! `segment` was asked for, and it is full where so many items were pushed and not popped. A `Note` carries to the consumer
+//! how much was pushed when it was made, and from then on the consumer finds that much. A `Link` ends a segment: it keeps the consumer of the next one, which owes the rest of the
 //! list, and `advance` goes on to that one exactly where all was popped. No call waits, and all but `segment` take no
 //! memory.
 //!

@@ -1,5 +1,5 @@
 // The end that pushes.
-ghost use Rattle.std.specs.Prelude.{◌≡◌, false, IfErr, OnOk};
+ghost use Rattle.std.specs.Prelude.{◌≡◌, ◌+◌, ◌<◌, ◌≤◌, false, IfErr, OnOk};
 ghost use Rattle.std.specs.Arc.{arc_value};
 ghost use Rattle.ring_segments.specs.Ends.{after_push, link_of, note_of, WasRefused};
 ghost use Rattle.ring_segments.specs.Sits.{IsPushing, producer_state};
@@ -50,11 +50,13 @@ impl Producer {
 
     /// Pushes the item that the segment owes next.
     ///
-    /// `Err` hands the item back. It comes where the ring was full when this call looked, once, or where as many items
-    /// were pushed as a `u64` can count. It takes no memory. `O(1)`: one load, and one store where it pushes.
+    /// `Err` hands the item back. It comes where the ring was full when this call looked, once: as many items as it takes were
+    /// pushed, and not popped as that look found. Or it comes where as many items were pushed as a `u64` can count. It takes no
+    /// memory. `O(1)`: one load, and one store where it pushes.
     pub fn push(&mut self, item: Value) -> Result<(), Value>
         requires { IsItem self.old.of.id self.old.pushed item }
-        ensures ok { OnOk result (self.new ≡ after_push self.old) }
+        ensures ok { OnOk result (self.new ≡ after_push self.old self.new.found) }
+        ensures room { OnOk result ((self.old.found ≤ self.new.found) × (self.old.pushed < self.new.found + self.old.of.size)) }
         ensures err { IfErr result (λ given. (given ≡ item) × WasRefused self.old self.new) }
     {
         if self.pushed == u64::MAX {
@@ -97,6 +99,14 @@ impl Producer {
         ensures { result ≡ self.now.of.key }
     {
         self.ring.about.key
+    }
+
+    /// How many items its ring takes. It takes no memory. `O(1)`.
+    pub fn size(&self) -> u64
+        ensures size { result ≡ self.now.of.size }
+        ensures some { 1 ≤ result }
+    {
+        self.ring.about.size
     }
 
     /// How many items were pushed. Where the segment owes a list, they all stand before its end. It takes no memory. `O(1)`.

@@ -48,7 +48,7 @@ pub fn segment(
     requires tag { ForSome name (λ s. IsSegmentOf s (tag_of tag)) }
     ensures producer { IfOk result (λ ends. ends.0 ≡ new_producer ends.0.of) }
     ensures consumer { IfOk result (λ ends. ends.1 ≡ new_consumer ends.0.of) }
-    ensures shown { IfOk result (λ ends. (ends.0.of.id ≡ record { name = name; tag = tag_of tag }) × (ends.0.of.key ≡ key)) }
+    ensures shown { IfOk result (λ ends. (ends.0.of.id ≡ record { name = name; tag = tag_of tag }) × (ends.0.of.key ≡ key) × (ends.0.of.size ≡ size)) }
 {
     let about = About {
         name,

@@ -23,6 +23,8 @@ pub struct SeatView<O> {
     pub looks: u64,
     /// How often the ring was full, or empty, then.
     pub misses: u64,
+    /// So many items were popped, as the producer found at its last look.
+    pub found: u64,
     /// At least so many items were pushed.
     pub known: u64,
     /// So many are ever pushed.

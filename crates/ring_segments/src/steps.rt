@@ -1,5 +1,5 @@
 // Pushes and pops, step by step.
-ghost use Rattle.std.specs.Prelude.{◌≡◌, ◌+◌, ◌<◌, ◌≤◌, ◌^◌, true, false, [], IfErr, IfNone, IfSome, OnOk};
+ghost use Rattle.std.specs.Prelude.{◌≡◌, ◌+◌, ◌<◌, ◌≤◌, ◌^◌, true, false, [], IfErr, IfNone, IfSome, OnErr, OnOk};
 ghost use Rattle.std.specs.Bool.{MatchBool};
 ghost use Rattle.std.specs.Option.{ForSome};
 ghost use Rattle.ring_segments.specs.Seating.{id_of};
@@ -20,8 +20,10 @@ pub(crate) fn put_in(
 ) -> Result<(), Value>
     requires seat { IsPushing ring.now seat.old pushed × (seat.old.me.0.sealed ≡ false) }
     requires entry { (entry.index ≡ pushed) × (entry.of ≡ id_of ring.now.about) × (pushed + 1 < 2 ^ 64) × HasRoomFor entry.of (pushed + 1) }
-    ensures ok { OnOk result (IsPushing ring.now seat.new (pushed + 1) × (seat.new.me.0 ≡ record seat.old.me.0 { pushed = pushed + 1; looks = seat.old.me.0.looks + 1 })) }
-    ensures err { IfErr result (λ item. (item ≡ entry.item) × IsPushing ring.now seat.new pushed × (seat.new.me.0 ≡ record seat.old.me.0 { looks = seat.old.me.0.looks + 1; misses = seat.old.me.0.misses + 1 })) }
+    ensures ok { OnOk result (IsPushing ring.now seat.new (pushed + 1) × (seat.new.me.0 ≡ record seat.old.me.0 { pushed = pushed + 1; looks = seat.old.me.0.looks + 1; found = seat.new.me.0.found })) }
+    ensures room { OnOk result ((seat.old.me.0.found ≤ seat.new.me.0.found) × (pushed < seat.new.me.0.found + ring.now.about.size)) }
+    ensures err { IfErr result (λ item. (item ≡ entry.item) × IsPushing ring.now seat.new pushed × (seat.new.me.0 ≡ record seat.old.me.0 { looks = seat.old.me.0.looks + 1; misses = seat.old.me.0.misses + 1; found = seat.new.me.0.found })) }
+    ensures full { OnErr result ((seat.old.me.0.found ≤ seat.new.me.0.found) × (pushed ≡ seat.new.me.0.found + ring.now.about.size)) }
 {
     let shared = &ring.table.shared;
     let head = shared.load::<SeeHead>(seat, HEAD);

@@ -1,5 +1,7 @@
 // Calls in one thread, with the answers worked out by hand.
-ghost use Rattle.std.specs.Prelude.{◌≡◌, ◌≤◌, None};
+ghost use Rattle.std.specs.Prelude.{◌≡◌, ◌<◌, ◌≤◌, None};
+ghost use Rattle.ring_segments.specs.Ends.{after_push};
+ghost use Rattle.ring_segments.specs.declared.ring.TheConstants.{RING_PLACES_MOST};
 
 use crate::helpers::{
     Step, advanced, drain, fill, free_segment, goes_in, hold_empty, hold_pops, hold_steps,
@@ -145,10 +147,74 @@ fn hold_round(rt: &impl Abort, alloc: Global, size: u32)
 }
 
 #[test]
-fn rings_of_one_two_and_sixteen_places_go_round(rt: HostRuntime) {
+fn rings_of_one_two_sixteen_and_seventeen_places_go_round(rt: HostRuntime) {
     hold_round(&rt, rt.alloc(), 1);
     hold_round(&rt, rt.alloc(), 2);
     hold_round(&rt, rt.alloc(), 16);
+    hold_round(&rt, rt.alloc(), 17);
+}
+
+/// Pushes a number where fewer were pushed than the ring takes: then it isn't refused, whatever was popped.
+fn push_first(producer: &mut Producer, number: i64)
+    requires name { producer.old.of.id.name ≡ None }
+    requires room { producer.old.pushed < producer.old.of.size }
+    requires few { producer.old.of.size ≤ RING_PLACES_MOST }
+    ensures { producer.new ≡ after_push producer.old producer.new.found }
+{
+    match producer.push(Value::Int(number)) {
+        Ok(()) => (),
+        Err(_) => unreachable!(),
+    }
+}
+
+/// Pushes the numbers from 0 on to a new segment, as many as its ring takes.
+fn push_all_first(producer: &mut Producer, size: u64)
+    requires name { producer.old.of.id.name ≡ None }
+    requires new { producer.old.pushed ≡ 0 }
+    requires size { (producer.old.of.size ≡ size) × (size ≤ RING_PLACES_MOST) }
+    ensures of { producer.new.of ≡ producer.old.of }
+    ensures pushed { producer.new.pushed ≡ size }
+{
+    for number in 0..size {
+        push_first(producer, number as i64);
+    }
+}
+
+/// Asserts what the two ends of a ring answer that took as many numbers, from 0 on, as it takes.
+fn hold_full(rt: &impl Abort, producer: &mut Producer, consumer: &mut Consumer, size: i64)
+    requires name { producer.old.of.id.name ≡ None }
+    requires segment { consumer.old.of ≡ producer.old.of }
+{
+    let steps = [
+        Step::Full(size),
+        Step::Full(size),
+        Step::Pop(0),
+        Step::Push(size),
+        Step::Full(size),
+        Step::Pop(1),
+        Step::Pop(2),
+        Step::Push(5),
+        Step::Push(6),
+        Step::Full(7),
+    ];
+    hold_steps(rt, producer, consumer, &steps);
+}
+
+/// Asserts that a new ring takes as many numbers as its size, and no more before one is popped.
+fn hold_size(rt: &impl Abort, alloc: Global, size: u32)
+    requires { (3 ≤ size) × (size ≤ RING_PLACES_MOST) }
+{
+    let (mut producer, mut consumer) = free_segment(rt, alloc, 0, size);
+    push_all_first(&mut producer, size as u64);
+    hold_full(rt, &mut producer, &mut consumer, size as i64);
+}
+
+#[test]
+fn a_ring_takes_as_many_items_as_its_size(rt: HostRuntime) {
+    hold_size(&rt, rt.alloc(), 3);
+    hold_size(&rt, rt.alloc(), 16);
+    hold_size(&rt, rt.alloc(), 17);
+    hold_size(&rt, rt.alloc(), 1000);
 }
 
 /// Pushes a record of these bytes, and says whether it went in.
@@ -201,17 +267,30 @@ fn records_go_through_and_those_left_are_dropped(rt: HostRuntime) {
     hold_there(&rt, &mut consumer);
 }
 
-/// Asserts that an end of a segment shows the tag of the plan's queue 3, and key 7.
-fn hold_shown(rt: &impl Abort, end: &str, tag: &Tag, key: u64) {
+/// Asserts that an end of a segment shows the tag of the plan's queue 3, key 7, and 20 places.
+fn hold_shown(rt: &impl Abort, end: &str, tag: &Tag, key: u64, size: u64) {
     assert!(rt; matches!(tag, Tag::Root(3)), "the tag of the {end}");
     assert!(rt; key == 7, "{end}: key {key}, not 7");
+    assert!(rt; size == 20, "{end}: {size} places, not 20");
 }
 
 #[test]
-fn both_ends_show_tag_and_key(rt: HostRuntime) {
-    let (producer, consumer) = free_segment(&rt, rt.alloc(), 7, 1);
-    hold_shown(&rt, "producer", producer.tag(), producer.key());
-    hold_shown(&rt, "consumer", consumer.tag(), consumer.key());
+fn both_ends_show_tag_key_and_size(rt: HostRuntime) {
+    let (producer, consumer) = free_segment(&rt, rt.alloc(), 7, 20);
+    hold_shown(
+        &rt,
+        "producer",
+        producer.tag(),
+        producer.key(),
+        producer.size(),
+    );
+    hold_shown(
+        &rt,
+        "consumer",
+        consumer.tag(),
+        consumer.key(),
+        consumer.size(),
+    );
 }
 
 /// Lets go of a value that may be sent to another thread.

@@ -15,6 +15,7 @@ pub fn free_segment(rt: &impl Abort, alloc: Global, key: u64, size: u32) -> (Pro
     ensures producer { result.0 ≡ new_producer result.0.of }
     ensures consumer { result.1 ≡ new_consumer result.0.of }
     ensures key { result.0.of.key ≡ key }
+    ensures size { result.0.of.size ≡ size }
 {
     match segment(alloc, RunName::free(), Tag::Root(3), key, size) {
         Ok(ends) => ends,

@@ -7,4 +7,6 @@ mod calls;
 #[cfg(test)]
 mod helpers;
 #[cfg(test)]
+mod tags;
+#[cfg(test)]
 mod threads;

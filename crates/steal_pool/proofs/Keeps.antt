@@ -114,3 +114,7 @@ module _ {T N : Type 0} (name : T → N) where
 -- where one of a list is raised, so is the sum
 pub raised : {X : Type 0} (f : X → ℕ) (xs : List X) (i n : ℕ) (y d : X) → i < length xs → f y ≡ f (slice_index_or xs i d) + n → sum_by f (slice_set xs i y) ≡ sum_by f xs + n
 raised f xs i n y d below more = omega (arith, sum_by-set f xs i y d below, more)
+
+-- where one of a list is as before, so is the sum
+pub unraised : {X : Type 0} (f : X → ℕ) (xs : List X) (i : ℕ) (y d : X) → i < length xs → f y ≡ f (slice_index_or xs i d) → sum_by f (slice_set xs i y) ≡ sum_by f xs
+unraised f xs i y d below same = omega (arith, sum_by-set f xs i y d below, same)

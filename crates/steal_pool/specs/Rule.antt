@@ -52,6 +52,11 @@ module _ {T N : Type 0} (name : T → N) where
   abbrev pub IsTaken : PoolView N → List (Parcel T N) → PoolView N → Type 0
   IsTaken v xs w = (w ≡ one_more v) × AllOf v.name xs
 
+  -- what a look tells, where an empty deque tells this
+  abbrev pub IsSeen : (PoolView N → Type 0) → PoolView N → List (Parcel T N) → Type 0
+  IsSeen empty v [] = empty v
+  IsSeen empty v (x ∷ xs) = HasName v.name x
+
 module _ {T N : Type 0} where
   abbrev pub IsLabelled : PoolView N → List (Parcel T N) → PoolView N → Type 0
   IsLabelled v xs w = (n : N) × (xs ≡ Label n ∷ []) × (w ≡ record v { stage = Labelled; name = Some n })

@@ -1,15 +1,36 @@
 -- What clauses say of the seats of a pool.
-use Rattle.std.specs.Prelude.{◌≡◌, ℕ, List, [], ◌∷◌, Some, ◌+◌}
-use Rattle.std.specs.declared.alloc.Global.{Global}
+use Rattle.std.specs.Prelude.{◌≡◌, ℕ, List, [], ◌∷◌, ◌++◌, Some, ◌+◌, ◌<◌, drop, length, map, slice_get, slice_set, take}
 use Rattle.crossbeam_deque.specs.Handles.{worker_capacity, worker_deque, worker_index, worker_port, worker_view}
 use Rattle.crossbeam_utils.specs.Padded.{padded_value}
 use Rattle.named_lock.specs.declared.named.Named.{Ghosts}
 use Rattle.steal_pool.specs.declared.rule.PoolView.{PoolView}
 use Rattle.steal_pool.specs.declared.rule.DequeStage.TheVariants.{Open}
+use Rattle.steal_pool.specs.declared.dry.Dry.{Dry}
 use Rattle.steal_pool.specs.declared.seat.PoolSeat.{PoolSeat}
+use Rattle.steal_pool.specs.Deques.{Deque}
 use Rattle.steal_pool.specs.Rule.{IsAtStage, one_more}
 use Rattle.steal_pool.specs.Kept.{frames}
-use Rattle.steal_pool.specs.Peers.{stolen_by}
+use Rattle.steal_pool.specs.Peers.{deques_of, stolen_by}
+
+-- the deques at which the take tried to steal, in order
+abbrev pub tried_at : Dry → List Deque
+tried_at dry = dry.tried
+
+-- all but the one at this index, as it comes to them in a ring: those behind it, and then those before it
+abbrev pub others_of : {X : Type 0} → List X → ℕ → List X
+others_of all index = drop (index + 1) all ++ take index all
+
+-- each of these lists, one for each of all, has so many of the others, the next ones
+abbrev pub HaveNext : {X : Type 0} → List X → ℕ → List (List X) → Type 0
+HaveNext all count lists = (index : ℕ) → index < length all → slice_get lists index ≡ Some (take count (others_of all index))
+
+-- the list at one place has one more, which stands among all at another place
+pub record HasMet {X : Type 0} (all : List X) (place from : ℕ) (before after : List (List X)) : Type 0 where
+  pub met : List X
+  pub other : X
+  pub had : slice_get before place ≡ Some met
+  pub stands : slice_get all from ≡ Some other
+  pub now : after ≡ slice_set before place (met ++ other ∷ [])
 
 module _ {T N : Type 0} {G : Ghosts T N} where
   -- the name of the pool
@@ -17,7 +38,7 @@ module _ {T N : Type 0} {G : Ghosts T N} where
   pool_name seat = seat.name
 
   -- which deque is the seat's own
-  abbrev pub own_deque : PoolSeat T N G → (ℕ × ℕ) × Global
+  abbrev pub own_deque : PoolSeat T N G → Deque
   own_deque seat = worker_deque (padded_value seat.own)
 
   -- how many frames the seat's deque has room for, before it grows
@@ -45,13 +66,24 @@ module _ {T N : Type 0} {G : Ghosts T N} where
   abbrev pub stolen : PoolSeat T N G → ℕ
   stolen seat = stolen_by seat.peers
 
+  -- the deques of the other seats that it knows, in the order in which it tries them
+  abbrev pub known : PoolSeat T N G → List Deque
+  known seat = deques_of seat.peers
+
+  -- each of these seats knows each other one, the next one first
+  abbrev pub KnowEachOther : List (PoolSeat T N G) → Type 0
+  KnowEachOther seats =
+      (index : ℕ) (seat : PoolSeat T N G) → slice_get seats index ≡ Some seat → known seat ≡ others_of (map own_deque seats) index
+
   -- a seat of the pool with this name, which knows the name, and whose own list is empty
   abbrev pub IsNewSeat : N → PoolSeat T N G → Type 0
   IsNewSeat name seat = (pool_name seat ≡ name) × IsAtStage Open (Some name) (own_view seat) × (listed seat ≡ [])
 
-  -- it is the same seat of the same pool: the pool's name, the seat's own deque and its place there are the same
+  -- it is the same seat of the same pool: the pool's name, the seat's own deque, its place there and the other seats that it knows
+  -- are the same
   abbrev pub IsSameSeat : PoolSeat T N G → PoolSeat T N G → Type 0
-  IsSameSeat old new = (pool_name new ≡ pool_name old) × (own_deque new ≡ own_deque old) × (own_port new ≡ own_port old)
+  IsSameSeat old new =
+      (pool_name new ≡ pool_name old) × (own_deque new ≡ own_deque old) × (own_port new ≡ own_port old) × (known new ≡ known old)
 
   -- no frame left the seat's deque or was stolen by its steps
   abbrev pub IsSameView : PoolSeat T N G → PoolSeat T N G → Type 0

@@ -1,14 +1,15 @@
 // One deque of a pool, and the ways to it.
-ghost use Rattle.std.specs.Prelude.{◌≡◌, ◌+◌, ◌≤◌, Some, IfOk, IfErr, IfSome, IfNone, OnOk, OnErr};
+ghost use Rattle.std.specs.Prelude.{◌≡◌, ◌+◌, ◌≤◌, Some, IfOk, IfErr, OnOk, OnErr};
+ghost use Rattle.std.specs.Bool.{MatchBool};
 ghost use Rattle.crossbeam_deque.specs.Tasks.{Finds};
 ghost use Rattle.crossbeam_deque.specs.Handles.{view, IsPassOf, worker_deque, worker_view, worker_port, worker_flavor, worker_index, worker_capacity, stealer_deque, stealer_flavor};
 ghost use Rattle.steal_pool.specs.Rule.{IsAtStage, new_pass, Pooled, one_more};
 ghost use Rattle.steal_pool.specs.declared.rule.DequeStage.TheVariants.{Open};
 
 use crate::parcel::Parcel;
-use crate::rule::{Labels, Opens, PoolRule, PoolView, Puts, Takes, Twins};
-use crossbeam_deque::protocol::{Free, Outcome};
-use crossbeam_deque::{Pass, Steal, Stealer, Worker};
+use crate::rule::{Labels, Looks, Opens, PoolRule, PoolView, Puts, Takes, Twins};
+use crossbeam_deque::protocol::Outcome;
+use crossbeam_deque::{Pass, Stealer, Worker};
 use named_lock::{NameOf, Named};
 use std::alloc::Global;
 use swan_model::NoMemory;
@@ -84,28 +85,24 @@ pub(crate) fn pop_frame<T: Named, M: Outcome<T, PoolView<T::Name>>>(
     }
 }
 
+/// Whether the deque is empty at one moment. `O(1)`.
+pub(crate) fn is_empty<T: Named, M: Outcome<T, PoolView<T::Name>>>(own: &mut Own<T>) -> bool
+    requires stage { (worker_view own.old).stage ≡ Open }
+    requires empty { Finds (Pooled T.name) (worker_port own.old) (worker_view own.old) (M.empty (worker_view own.old)) }
+    ensures same { (worker_deque own.new ≡ worker_deque own.old) × (worker_view own.new ≡ worker_view own.old) × (worker_flavor own.new ≡ worker_flavor own.old) × (worker_port own.new ≡ worker_port own.old) × (worker_index own.new ≡ worker_index own.old) }
+    ensures answer { MatchBool result (M.empty (worker_view own.old)) ((frame : T) × ((worker_view own.old).name ≡ Some (T.name frame))) }
+{
+    own.len_as::<Looks<M>>() == 0
+}
+
 /// A thief's way to a deque. It allocates nothing, and fails where the deque has all the stealers that it may have.
 pub(crate) fn new_thief<T: Named>(own: &mut Own<T>) -> Result<(Other<T>, Thief<T>), NoMemory>
     requires { (worker_flavor own.old ≡ 0) × ((worker_view own.old).stage ≡ Open) }
-    ensures own { (worker_view own.new ≡ worker_view own.old) × (worker_flavor own.new ≡ 0) }
+    ensures own { (worker_view own.new ≡ worker_view own.old) × (worker_flavor own.new ≡ 0) × (worker_deque own.new ≡ worker_deque own.old) }
     ensures thief { IfOk result (λ r. IsPassOf (stealer_deque r.0) r.1 × (view r.1 ≡ new_pass (worker_view own.old)) × (stealer_flavor r.0 ≡ 0)) }
+    ensures deque { IfOk result (λ r. stealer_deque r.0 ≡ worker_deque own.old) }
 {
     let stealer = own.stealer()?;
     let pass = own.another::<Twins>();
     Ok((stealer, pass))
-}
-
-/// Tries once to steal a frame, which has the name. `O(1)`.
-pub(crate) fn steal_frame<T: Named>(other: &Other<T>, pass: &mut Thief<T>) -> Option<T>
-    requires { IsPassOf (stealer_deque other.now) pass.old × ((view pass.old).stage ≡ Open) }
-    ensures same { IsPassOf (stealer_deque other.now) pass.new }
-    ensures some { IfSome result (λ frame. (view pass.old).name ≡ Some (T.name frame)) }
-    ensures taken { IfSome result (λ frame. view pass.new ≡ one_more (view pass.old)) }
-    ensures none { IfNone result (view pass.new ≡ view pass.old) }
-{
-    match other.steal_as::<Takes<Free>>(pass) {
-        Steal::Success(Parcel::Item(frame)) => Some(frame),
-        Steal::Success(Parcel::Label(_)) => unreachable!(),
-        Steal::Empty | Steal::Retry => None,
-    }
 }

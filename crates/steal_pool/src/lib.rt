@@ -9,14 +9,18 @@
 //!   from, so it is never lost.
 //! - `PoolSeat::take` looks into the seat's deque, then into its list, and then tries one steal at each other seat, the next one
 //!   first. It answers `Dry` where it found nothing. Only it makes one.
+//! - `PoolSeat::is_bare` looks whether the seat's deque is empty.
 //!
 //! Promised, and proved over all interleavings of the seats' steps:
 //!
+//! - Each seat of a new pool knows each other one, the next one first, and never forgets one.
 //! - What comes out has the pool's name.
 //! - `take` gives one frame, from the deque, the list or another seat, and no other frame leaves by that call.
-//! - `Dry` comes only where a pop of this call found the seat's deque empty at one moment, its list is empty, and no steal of this
-//!   call gave a frame. The caller's own `Outcome` says what it learns of an empty deque. A `Dry` holds a token that only that pop
-//!   gives, so no other body can answer it.
+//! - `Dry` comes only where a pop of this call found the seat's deque empty at one moment, its list is empty, and a steal from each
+//!   other seat, in order, gave no frame. The caller's own `Outcome` says what it learns of an empty deque. A `Dry` holds two tokens,
+//!   one that only that pop gives and one to which only such a steal adds a deque, so no other body can answer it.
+//! - `is_bare` is true only where the seat's deque was empty at one moment, of which the caller learns the same, and false only where
+//!   a frame stood there.
 //!
 //! That a frame which comes out was put, and goes out once, needs no clause: a frame moves by value, is not copied, and this code
 //! is generic in its type, so it can make none.
@@ -35,6 +39,7 @@ mod peer;
 mod peers;
 mod rule;
 mod seat;
+mod stealing;
 #[cfg(test)]
 mod tests;
 

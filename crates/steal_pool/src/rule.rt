@@ -1,6 +1,6 @@
 // What holds of a deque between any two steps, and what each step tells.
 use crate::parcel::Parcel;
-use crossbeam_deque::protocol::{Outcome, Protocol, Split};
+use crossbeam_deque::protocol::{Lesson, Outcome, Protocol, Split};
 use named_lock::Named;
 use std::marker::PhantomData;
 
@@ -80,6 +80,17 @@ impl<T: Named, M: Outcome<T, PoolView<T::Name>>> Outcome<Parcel<T>, PoolView<T::
     ghost then = { IsTaken T.name };
 
     ghost empty = { M.empty };
+}
+
+/// A look at a deque: an empty one tells what `M` says of that, and any other one has a frame.
+pub(crate) struct Looks<M> {
+    outcome: PhantomData<M>,
+}
+
+impl<T: Named, M: Outcome<T, PoolView<T::Name>>> Lesson<Parcel<T>, PoolView<T::Name>> for Looks<M> {
+    ghost use Rattle.steal_pool.specs.Rule.{IsSeen};
+
+    ghost fact = { IsSeen T.name M.empty };
 }
 
 /// Another seat gets a pass.

@@ -1,5 +1,6 @@
 // Seats of a pool.
 ghost use Rattle.std.specs.Prelude.{◌≡◌, ◌+◌, ◌≤◌, ◌++◌, ◌∷◌, [], ◌⊎◌, Some, IfOk, IfErr, OnOk, OnErr};
+ghost use Rattle.std.specs.Bool.{MatchBool};
 ghost use Rattle.crossbeam_deque.specs.Tasks.{Finds};
 ghost use Rattle.crossbeam_deque.specs.Handles.{worker_view, worker_flavor};
 ghost use Rattle.crossbeam_utils.specs.Padded.{padded_value};
@@ -8,7 +9,7 @@ ghost use Rattle.steal_pool.specs.Rule.{Pooled};
 ghost use Rattle.steal_pool.specs.declared.rule.DequeStage.TheVariants.{Open};
 
 use crate::Dry;
-use crate::deque::{Own, own_like, pop_frame, push_frame};
+use crate::deque::{Own, is_empty, own_like, pop_frame, push_frame};
 use crate::kept::KeptList;
 use crate::peer::Peer;
 use crate::peers::Peers;
@@ -34,12 +35,14 @@ pub struct PoolSeat<T: Named> {
 }
 
 impl<T: Named> PoolSeat<T> {
-    ghost use Rattle.steal_pool.specs.Seats.{GivesFirst, GivesListed, GivesStolen, IsNewSeat, IsSameSeat, IsSameView, listed, next_put, own_port, own_room, own_view, pool_name};
+    ghost use Rattle.steal_pool.specs.Peers.{peer_deque};
+    ghost use Rattle.steal_pool.specs.Seats.{GivesFirst, GivesListed, GivesStolen, IsNewSeat, IsSameSeat, IsSameView, known, listed, next_put, own_deque, own_port, own_room, own_view, pool_name, tried_at};
 
     /// A seat of the pool that has the name of `like`, which knows no other seat yet, and has room for so many. It
     /// allocates the deque with its first ring, and the list of the others.
     pub(crate) fn alone(alloc: Global, like: &T, others: usize) -> Result<PoolSeat<T>, NoMemory>
-        ensures { IfOk result (λ seat. IsNewSeat (T.name like.now) seat) }
+        ensures new { IfOk result (λ seat. IsNewSeat (T.name like.now) seat) }
+        ensures alone { IfOk result (λ seat. known seat ≡ []) }
     {
         let own = own_like(alloc, like)?;
         Ok(PoolSeat {
@@ -54,7 +57,8 @@ impl<T: Named> PoolSeat<T> {
     pub(crate) fn as_peer(&mut self, like: &T) -> Result<Peer<T>, NoMemory>
         requires { IsNewSeat (T.name like.now) self.old }
         ensures new { IsNewSeat (T.name like.now) self.new }
-        ensures peer { IfOk result (λ peer. peer.name ≡ T.name like.now) }
+        ensures same { (own_deque self.new ≡ own_deque self.old) × (known self.new ≡ known self.old) }
+        ensures peer { IfOk result (λ peer. (peer.name ≡ T.name like.now) × (peer_deque peer ≡ own_deque self.old)) }
     {
         Peer::new(&mut self.own, like)
     }
@@ -62,7 +66,9 @@ impl<T: Named> PoolSeat<T> {
     /// One more seat to steal from, after those that it knows. `O(1)`.
     pub(crate) fn meet(&mut self, peer: Peer<T>) -> Result<(), NoMemory>
         requires { IsNewSeat peer.name self.old }
-        ensures { IsNewSeat peer.name self.new }
+        ensures new { IsNewSeat peer.name self.new }
+        ensures same { own_deque self.new ≡ own_deque self.old }
+        ensures ok { OnOk result (known self.new ≡ known self.old ++ peer_deque peer ∷ []) }
     {
         self.peers.push(peer)
     }
@@ -99,7 +105,7 @@ impl<T: Named> PoolSeat<T> {
     /// is looked at, and before a steal, is by the code, and no clause says it where a frame is given.
     ///
     /// `Dry` comes only where the deque was empty at one moment of this call, of which the caller learns what `M` says of an empty
-    /// deque, the list is empty, and no steal gave a frame. It takes no memory. `O(1)`, or `O(seats)` where it steals.
+    /// deque, the list is empty, and a steal from each other seat that this one knows gave no frame. It takes no memory. `O(1)`, or `O(seats)` where it steals.
     pub fn take<M: Outcome<T, PoolView<T::Name>>>(&mut self) -> Result<T, Dry>
         requires { Finds (Pooled T.name) (own_port self.old) (own_view self.old) (M.empty (own_view self.old)) }
 
@@ -114,6 +120,7 @@ impl<T: Named> PoolSeat<T> {
         ensures empty { OnErr result (M.empty (own_view self.old)) }
         ensures none_taken { OnErr result (IsSameView self.old self.new) }
         ensures none_listed { OnErr result ((listed self.old ≡ []) × (listed self.new ≡ [])) }
+        ensures all_tried { IfErr result (λ dry. tried_at dry ≡ known self.old) }
     {
         let empty = match pop_frame::<T, M>(&mut self.own) {
             Ok(frame) => return Ok(frame),
@@ -123,8 +130,22 @@ impl<T: Named> PoolSeat<T> {
             return Ok(frame);
         }
         match self.peers.steal() {
-            Some(frame) => Ok(frame),
-            None => Err(Dry::new(empty)),
+            Ok(frame) => Ok(frame),
+            Err(tried) => Err(Dry::new(empty, tried)),
         }
+    }
+
+    /// Whether the seat's deque was empty at one moment of this call. It looks at neither the seat's own list nor the other seats,
+    /// and takes nothing.
+    ///
+    /// Of an empty deque the caller learns what `M` says of it, as from `take`. `false` comes only where a frame stood there,
+    /// which has the pool's name. It takes no memory. `O(1)`: one load.
+    pub fn is_bare<M: Outcome<T, PoolView<T::Name>>>(&mut self) -> bool
+        requires { Finds (Pooled T.name) (own_port self.old) (own_view self.old) (M.empty (own_view self.old)) }
+        ensures same { IsSameSeat self.old self.new × IsSameView self.old self.new × (next_put self.new ≡ next_put self.old) }
+        ensures listed { listed self.new ≡ listed self.old }
+        ensures answer { MatchBool result (M.empty (own_view self.old)) ((frame : T) × (T.name frame ≡ pool_name self.old)) }
+    {
+        is_empty::<T, M>(&mut self.own)
     }
 }

@@ -1,5 +1,5 @@
 // Tests of pools: numbered balls of one pool, in one thread and in four.
-ghost use Rattle.std.specs.Prelude.{◌≤◌};
+ghost use Rattle.std.specs.Prelude.{◌≡◌, ◌<◌, ◌≤◌, vec_len};
 ghost use Rattle.steal_pool.specs.declared.opening.TheConstants.{SEATS_MOST};
 
 use crate::{PoolSeat, pool};
@@ -202,6 +202,94 @@ fn hold_own(rt: &impl Abort, seats: &mut Two) {
 fn a_seat_takes_what_is_on_its_own_list_and_nobody_else_does(rt: HostRuntime) {
     let mut seats = two_seats(&rt, rt.alloc(), &Ball { number: 3 });
     hold_own(&rt, &mut seats);
+}
+
+/// Whether each of these seats takes a ball that the one at this place has put, and nothing is left then.
+fn is_passed_from(seats: &mut Vec<PoolSeat<Ball>>, place: usize) -> bool
+    requires { place < vec_len seats.old }
+    ensures { vec_len seats.new ≡ vec_len seats.old }
+{
+    for taker in 0..seats.len() {
+        let number = taker as u64;
+        if put(&mut seats[place], number).is_err() {
+            return false;
+        }
+        if take(&mut seats[taker]) != Some(number) || take(&mut seats[taker]).is_some() {
+            return false;
+        }
+    }
+    true
+}
+
+/// At how many of these seats, one after the other, all others find what it alone has.
+fn passed(seats: &mut Vec<PoolSeat<Ball>>) -> usize {
+    for place in 0..seats.len() {
+        if !is_passed_from(seats, place) {
+            return place;
+        }
+    }
+    seats.len()
+}
+
+/// Asserts that in a pool of this many seats each finds what any one of them alone has.
+fn hold_each_finds(rt: &impl Abort, alloc: Global, count: u32)
+    requires { (1 ≤ count) × (count ≤ SEATS_MOST) }
+{
+    let mut seats = seats_of(rt, alloc, &Ball { number: 0 }, count);
+    let passed = passed(&mut seats);
+    drop(seats);
+    assert!(rt;
+        passed == count as usize,
+        "of {count} seats, number {passed}"
+    );
+}
+
+#[test]
+fn each_seat_finds_what_any_one_of_them_alone_has(rt: HostRuntime) {
+    hold_each_finds(&rt, rt.alloc(), 1);
+    hold_each_finds(&rt, rt.alloc(), 2);
+    hold_each_finds(&rt, rt.alloc(), 4);
+    hold_each_finds(&rt, rt.alloc(), 7);
+}
+
+/// Asserts whether a seat's deque is bare.
+fn hold_bare(rt: &impl Abort, when: &str, seat: &mut PoolSeat<Ball>, is_bare: bool) {
+    assert!(rt; seat.is_bare::<Free>() == is_bare, "{when}");
+}
+
+/// Asserts that a deque is bare until a ball is put there, and again once another seat has taken it.
+fn hold_bare_again(rt: &impl Abort, seats: &mut Two) {
+    hold_bare(rt, "a new seat", &mut seats.0, true);
+    hold_put(rt, &mut seats.0, 1);
+    hold_bare(rt, "after a put", &mut seats.0, false);
+    hold_bare(rt, "the other seat", &mut seats.1, true);
+    hold_taken(rt, "the second seat", &mut seats.1, 1);
+    hold_bare(rt, "after a steal", &mut seats.0, true);
+}
+
+#[test]
+fn a_deque_is_bare_where_no_ball_is_in_it(rt: HostRuntime) {
+    let mut seats = two_seats(&rt, rt.alloc(), &Ball { number: 1 });
+    hold_bare_again(&rt, &mut seats);
+}
+
+/// Asserts that of two balls in a deque one is left, after a take of the seat itself.
+fn hold_bare_after_two(rt: &impl Abort, seats: &mut Two) {
+    hold_kept(rt, &mut seats.0, 4);
+    hold_bare(rt, "one on the list", &mut seats.0, true);
+    hold_put(rt, &mut seats.0, 2);
+    hold_put(rt, &mut seats.0, 3);
+    hold_taken(rt, "the first seat", &mut seats.0, 2);
+    hold_bare(rt, "one of two left", &mut seats.0, false);
+    hold_taken(rt, "the first seat", &mut seats.0, 3);
+    hold_bare(rt, "both taken", &mut seats.0, true);
+    hold_taken(rt, "the first seat", &mut seats.0, 4);
+}
+
+#[test]
+fn a_deque_is_bare_whatever_is_on_the_list(rt: HostRuntime) {
+    let mut seats = two_seats(&rt, rt.alloc(), &Ball { number: 2 });
+    hold_bare_after_two(&rt, &mut seats);
 }
 
 /// Adds what a seat got to the numbers. The test ends where there was no memory for it.
