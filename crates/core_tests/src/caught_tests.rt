@@ -120,6 +120,19 @@ fn a_sync_is_told_of_the_children_since_the_last_one(rt: HostRuntime) -> Result<
                 out: "1\n2\n0\n",
                 report: "faults 3\nfault /0 11 User 1\nfault /1 11 User 1\nfault /2 11 User 1\n",
             },
+            // fuel that ends at the Sync, and at the push after it
+            Row {
+                tasks: &["spawn:1:1: sync push:1:9", "fail:1"],
+                fuel: 2,
+                out: "",
+                report: "faults 2\nfault /0 4 User 1\nfault / 1 Fuel\n",
+            },
+            Row {
+                tasks: &["spawn:1:1: sync push:1:9", "fail:1"],
+                fuel: 3,
+                out: "",
+                report: "faults 2\nfault /0 4 User 1\nfault / 2 Fuel\n",
+            },
             // a child that is told of its own children, and fails then
             Row {
                 tasks: &[
@@ -156,7 +169,7 @@ fn children_of_children_do_not_count(rt: HostRuntime) -> Result<(), Fail> {
 }
 
 /// A child without fuel for its work, one that may not read, one that finds no item, one that gives one place twice, one that
-/// can't pay for its child, two that can't go on, and one that ends well.
+/// can't pay for its child, two that can't go on, one that ends well, and three more that can't go on.
 #[test]
 fn each_kind_of_fault_counts(rt: HostRuntime) -> Result<(), Fail> {
     leave_in_each_way(
@@ -164,7 +177,7 @@ fn each_kind_of_fault_counts(rt: HostRuntime) -> Result<(), Fail> {
         rt.alloc(),
         &[Row {
             tasks: &[
-                "spawn:1:1: spawn:2:5: spawn:3:5:0.pop spawn:4:5:2.inout spawn:5:5: spawn:6:5: spawn:7:5: spawn:8:5: sync push:1:9",
+                "spawn:1:1: spawn:2:5: spawn:3:5:0.pop spawn:4:5:2.inout spawn:5:5: spawn:6:5: spawn:7:5: spawn:8:5: spawn:9:5: spawn:10:5: spawn:11:5: sync push:1:9",
                 "work work",
                 "read:0",
                 "pop:0 pop:0 pop:0",
@@ -173,10 +186,13 @@ fn each_kind_of_fault_counts(rt: HostRuntime) -> Result<(), Fail> {
                 "overflow",
                 "divide",
                 "work",
+                "range",
+                "long",
+                "number",
             ],
             fuel: 99,
-            out: "7\n",
-            report: "faults 7\nfault /0 12 Fuel\nfault /1 14 Privilege\nfault /2 18 PopEmpty\nfault /3 20 Alias\nfault /4 22 Fuel\nfault /5 24 Overflow\nfault /6 26 DivideByZero\n",
+            out: "10\n",
+            report: "faults 10\nfault /0 15 Fuel\nfault /1 17 Privilege\nfault /2 21 PopEmpty\nfault /3 23 Alias\nfault /4 25 Fuel\nfault /5 27 Overflow\nfault /6 29 DivideByZero\nfault /8 33 Range\nfault /9 35 TooLong\nfault /10 37 BadNumber\n",
         }],
     )
 }

@@ -116,10 +116,10 @@ fn each_kind_of_fault_counts(rt: HostRuntime) -> Result<(), Fail> {
                 report: "faults 1\nfault /0 4 Fuel\n",
             },
             Row {
-                words: "spawn:5:1: spawn:6:1: sync push:1:9 finish overflow divide",
-                fuel: 9,
-                out: "2\n",
-                report: "faults 2\nfault /0 5 Overflow\nfault /1 6 DivideByZero\n",
+                words: "spawn:8:1: spawn:9:1: spawn:10:1: spawn:11:1: spawn:12:1: sync push:1:9 finish overflow divide range long number",
+                fuel: 20,
+                out: "5\n",
+                report: "faults 5\nfault /0 8 Overflow\nfault /1 9 DivideByZero\nfault /2 10 Range\nfault /3 11 TooLong\nfault /4 12 BadNumber\n",
             },
         ],
     )

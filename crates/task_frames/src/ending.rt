@@ -80,7 +80,7 @@ impl<Q: Queues> Kept<Q> {
     }
 
     /// Books a fault of a live frame, which ends it: the frame above it, where it has one, has one more failed child. Err is want of
-    /// memory, and changes nothing. `O(log n)`, amortised.
+    /// memory. `O(log n)`, amortised.
     pub fn book(&mut self, number: u64, fault: Fault) -> Result<(), NoMemory>
         requires live { IsSome (live_at self.old.live number) }
         requires room { (frame : LiveFrame) → live_at self.old.live number ≡ Some frame → HasRoomForOne self.old.live frame.parent }

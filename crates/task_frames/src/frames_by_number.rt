@@ -193,7 +193,8 @@ fn fail_child(older: &mut BTreeMap<u64, LiveFrame>, number: u64)
     }
 }
 
-/// Notes in the older frames that one takes a Sync, with so many steps done then. `O(log n)`.
+/// Notes in the older frames that one takes a Sync, with so many steps done then. It answers how many of its children failed since
+/// the last one. `O(log n)`.
 fn sync(older: &mut BTreeMap<u64, LiveFrame>, number: u64, done: u64) -> u64
     requires live { IsSome (live_at older.old.entries number) }
     ensures failed { (frame : TheLiveFrame) → live_at older.old.entries number ≡ Some frame → result ≡ frame.failed }

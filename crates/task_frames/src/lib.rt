@@ -22,12 +22,13 @@
 //! run of its queues (`PlanRun`), which no call changes; it is never done, and may move to another thread.
 //!
 //! Promised by the type of the core between any two calls, up to want of memory (definition `IsCore`): its queues and its
-//! objects are those of the elision's script at one reading of the whole run, its record has the live frames and who
-//! spawned each, and the booked faults are those of the tasks that have ended, each once.
+//! objects are those of the elision's script at one reading of the whole run, its record has the live frames, who
+//! spawned each and how many of its children failed since its last Sync, and the booked faults are those of the tasks that have
+//! ended, each once.
 //!
 //! Promised of `resume` (definition `IsResumed`): the core takes the next step of the frame that it gave last under this number,
 //! and of no other one; or it shows what the frame has to wait for, which is a live frame earlier in serial order. All other
-//! frames stay as they are. Want of memory tears the frame and leaves the core without anything for good. So a run is never stuck,
+//! frames stay as they were given; an end by a fault raises the count of the frame above. Want of memory tears the frame and leaves the core without anything for good. So a run is never stuck,
 //! which is a law (`a_core_is_never_stuck`): its earliest live frame waits for nobody.
 //!
 //! Not promised: that memory is found, and how long a body takes for a step.
