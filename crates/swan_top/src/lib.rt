@@ -39,7 +39,7 @@ mod verdict;
 mod way;
 mod write;
 
-pub use command::{Command, Usage, read_words};
+pub use command::{Command, FUEL_WORD_MOST, NUMBER_WORD_MOST, Usage, read_words};
 pub use honest::{honest_call, honest_calls_end_well};
 pub use how::How;
 pub use limits::limits_of_words;
