@@ -4,30 +4,62 @@ use std::alloc::Global;
 use std::process::Abort;
 use swan_model::{NoMemory, Path};
 
-/// The tag of a queue that a task makes.
-fn made(path: Path, step: u64) -> Tag {
-    Tag::Made { path, step }
+/// What a tag names. A task is the root, or its child of this number.
+#[derive(Clone, Copy)]
+enum Row {
+    /// The plan's queue of this index.
+    Root(u32),
+    /// The queue that a task makes by this step.
+    Made(Option<u32>, u64),
+    /// The segment that a task makes at a push, by this step.
+    Step(Option<u32>, u64),
 }
 
-/// The tag of a segment that a task makes at a push.
-fn pushed(path: Path, step: u64) -> Tag {
-    Tag::Step { path, step }
-}
+/// Rows that all name different segments.
+const ROWS: [Row; 11] = [
+    Row::Root(0),
+    Row::Root(1),
+    Row::Made(None, 0),
+    Row::Made(None, 1),
+    Row::Made(Some(0), 0),
+    Row::Made(Some(0), 1),
+    Row::Made(Some(1), 0),
+    Row::Step(None, 0),
+    Row::Step(None, 1),
+    Row::Step(Some(0), 0),
+    Row::Step(Some(1), 0),
+];
 
-/// Tags that all name different segments.
-fn tags(alloc: Global) -> Result<Vec<Tag>, NoMemory> {
+/// The path of the root, or of its child of this number.
+fn path_of(alloc: Global, child: Option<u32>) -> Result<Path, NoMemory> {
     let root = Path::root(alloc);
+    match child {
+        Some(number) => root.child(number),
+        None => Ok(root),
+    }
+}
+
+/// The tag that a row names.
+fn tag_of(alloc: Global, row: Row) -> Result<Tag, NoMemory> {
+    match row {
+        Row::Root(index) => Ok(Tag::Root(index)),
+        Row::Made(task, step) => Ok(Tag::Made {
+            path: path_of(alloc, task)?,
+            step,
+        }),
+        Row::Step(task, step) => Ok(Tag::Step {
+            path: path_of(alloc, task)?,
+            step,
+        }),
+    }
+}
+
+/// The tags of all rows.
+fn tags(alloc: Global) -> Result<Vec<Tag>, NoMemory> {
     let mut tags = Vec::new(alloc);
-    tags.push(Tag::Root(0))?;
-    tags.push(Tag::Root(1))?;
-    tags.push(made(root.copy()?, 0))?;
-    tags.push(made(root.copy()?, 1))?;
-    tags.push(made(root.child(0)?, 0))?;
-    tags.push(made(root.child(1)?, 0))?;
-    tags.push(pushed(root.copy()?, 0))?;
-    tags.push(pushed(root.copy()?, 1))?;
-    tags.push(pushed(root.child(0)?, 0))?;
-    tags.push(pushed(root.child(0)?.child(0)?, 0))?;
+    for row in ROWS {
+        tags.push(tag_of(alloc, row)?)?;
+    }
     Ok(tags)
 }
 
