@@ -275,6 +275,7 @@ impl JobLocal {
 
     /// Takes the answer to what the last step asked for. One that it didn't ask for is nothing.
     /// `O(1)`.
+    #[inline(always)]
     pub(crate) fn tell(&mut self, last: &Action, answer: Answer)
         ensures { self.new ≡ record self.old { values = values_after_answer self.old.values last.now answer; caught = caught_after_answer self.old.caught last.now answer } }
     {

@@ -35,7 +35,7 @@ pub enum FaultKind {
     Depth,
 }
 
-/// One fault. It ended its task and nothing else.
+/// One fault. It ended its task, and its parent has one more failed child. Nothing else came of it.
 #[derive(Drop)]
 pub struct Fault {
     /// The task.
