@@ -30,7 +30,8 @@ named_give store holdings give =
 
 module _ {B L : Type 0} (G : Ghosts B L) where
   -- One fault was booked: that of the top activation, where it stood in the program. The activation is gone. Its parent,
-  -- where it has one, has one more failed child; those below it stay else, and so do all objects and queues.
+  -- where it has one, has one more failed child. All else of the activations below it stays, and so do all objects
+  -- and queues.
   pub record EndsByFault (body : B) (before after : State L) : Type 0 where
     pub top : Activation L
     pub fault : Fault

@@ -6,10 +6,10 @@ ghost use Rattle.serial_elision.specs.Laws.{AreInOrder, EndsWhereItFaults, Right
 
 use swan_model::Body;
 
-/// The law that a fault ends its task, and else is but counted: a step books no fault, or one, which has
-/// the path of the task whose step it was and the place where that stood; then this task is gone, and
-/// its parent, where it has one, has one more failed child. Nothing else changes of the tasks below it,
-/// and all objects and queues stay.
+/// The law that a fault ends its task, is counted at the task's parent, and does nothing else. A step books no
+/// fault, or one, which has the path of the task whose step it was and the place where that stood. Then this
+/// task is gone, and its parent, where it has one, has one more failed child. All else of the tasks below it
+/// stays, and so do all objects and queues.
 pub fn a_fault_ends_its_task<B: Body>()
     ensures { (plan : Plan B B.Local) (n : ℕ) →
         EndsWhereItFaults B.Body plan.body (serial B.Body plan n) (serial B.Body plan (n + 1)) }
