@@ -1,5 +1,5 @@
 -- What instructions do. The code alone is stated by this, and no public clause.
-use Rattle.std.specs.Prelude.{ℕ, ◌+◌, ℤ, pos, negsuc, Option, Some, None, Result, Ok, Err, List, ◌++◌, map, slice_get, slice_set, unwrap_or, if◌then◌else◌}
+use Rattle.std.specs.Prelude.{Bool, true, false, ℕ, ◌+◌, ℤ, pos, negsuc, Option, Some, None, Result, Ok, Err, List, ◌++◌, map, slice_get, slice_set, unwrap_or, if◌then◌else◌}
 use Rattle.job_body.specs.Operations.{flag, is_true, number_of, operation}
 use Rattle.job_body.specs.Standing.{Standing}
 use Rattle.job_body.specs.Steps.{counted, is_kind}
@@ -66,6 +66,14 @@ op_of int.Not = op.Not
 -- its value on numbers
 abbrev pub int_operation : IntOp → ℤ → ℤ → Result Value Trouble
 int_operation o a b = operation (op_of o) (Int a) (Int b) (Int (pos 0))
+
+-- an operation whose value is a number
+abbrev pub gives_number : Op → Bool
+gives_number op.Set = false
+gives_number op.Slice = false
+gives_number op.Cat = false
+gives_number op.Text = false
+gives_number _ = true
 
 -- a number as a value, where there is one
 abbrev pub valued : Result ℤ Trouble → Result Value Trouble

@@ -69,7 +69,7 @@ impl JobBody {
         ensures { IfOk result (λ local. local ≡ begun self.now (task_index self.now (codes "main")) []) }
     {
         let main = TaskIndex::new(main_index(lines(&self.job)) as u32);
-        begin(&self.program, &main, Vec::new(alloc))
+        begin(alloc, &self.program, &main, Vec::new(alloc))
     }
 }
 

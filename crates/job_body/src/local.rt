@@ -6,14 +6,22 @@ use std::alloc::Global;
 use std::marker::Model;
 use swan_model::{Answer, Kind, NoMemory, Trouble, Value};
 
+/// What an activation has besides its place: the values of its variables, and how many children failed by its last sync.
+#[derive(Drop)]
+struct Kept {
+    values: Vec<Slot>,
+    caught: u64,
+}
+
 /// What an activation of a job keeps between its steps: where it stands, the values of its variables,
 /// and how many children failed by its last sync. Contracts see it as a standing of the definitions.
+///
+/// A local is moved at each step that the core takes, so all but its place stands in a box.
 #[derive(Drop)]
 pub struct JobLocal {
     before: u32,
     at: u32,
-    values: Vec<Slot>,
-    caught: u64,
+    kept: Box<Kept>,
 }
 
 impl Model for JobLocal {
@@ -21,7 +29,12 @@ impl Model for JobLocal {
 
     ghost Value = { Standing };
 
-    ghost view = { λ local. record { before = local.before; at = local.at; values = local.values.items; caught = local.caught } };
+    ghost view = { λ local. record {
+      before = local.before;
+      at = local.at;
+      values = local.kept.value.values.items;
+      caught = local.kept.value.caught;
+    } };
 }
 
 impl JobLocal {
@@ -33,17 +46,18 @@ impl JobLocal {
     ghost use Rattle.swan_model.specs.declared.record.TheConstants.{RECORD_MOST};
     ghost use Rattle.swan_model.specs.declared.value.Value.TheVariants.{Int, Bytes};
 
-    /// The local of an activation that begins, with no failed children. `O(1)`.
-    pub(crate) fn new(before: u32, at: u32, values: Vec<Slot>) -> JobLocal
-        ensures { result ≡ record { before = before; at = at; values = values.items; caught = 0 } }
+    /// The local of an activation that begins, with no failed children. `O(1)`, and one allocation.
+    pub(crate) fn new(
+        alloc: Global,
+        before: u32,
+        at: u32,
+        values: Vec<Slot>,
+    ) -> Result<JobLocal, NoMemory>
+        ensures { IfOk result (λ local. local ≡ record { before = before; at = at; values = values.items; caught = 0 }) }
     {
         let caught = 0;
-        JobLocal {
-            before,
-            at,
-            values,
-            caught,
-        }
+        let kept = Box::new(alloc, Kept { values, caught })?;
+        Ok(JobLocal { before, at, kept })
     }
 
     /// The index of the line of the last step. `O(1)`.
@@ -64,7 +78,7 @@ impl JobLocal {
     pub(crate) fn caught(&self) -> u64
         ensures { result ≡ self.now.caught }
     {
-        self.caught
+        self.kept.caught
     }
 
     /// The value of an operand, for someone else. A record shares its bytes. `O(1)`, but `O(length)` for the first time after bytes
@@ -77,7 +91,7 @@ impl JobLocal {
         match operand {
             Operand::Int(number) => Ok(Value::Int(*number)),
             Operand::Bytes(record) => Ok(Value::Bytes(record.copy()?)),
-            Operand::Variable(slot) => match self.values.get_mut(*slot as usize) {
+            Operand::Variable(slot) => match self.kept.values.get_mut(*slot as usize) {
                 Some(slot) => slot.give(),
                 None => Ok(Value::Int(0)),
             },
@@ -98,7 +112,7 @@ impl JobLocal {
         match operand {
             Operand::Int(_) => part_of_none(i, j),
             Operand::Bytes(record) => part(record, i, j),
-            Operand::Variable(slot) => match self.values.get_mut(*slot as usize) {
+            Operand::Variable(slot) => match self.kept.values.get_mut(*slot as usize) {
                 Some(slot) => slot.part(i, j),
                 None => part_of_none(i, j),
             },
@@ -122,7 +136,7 @@ impl JobLocal {
     fn number_at(&self, slot: u32) -> i64
         ensures { result ≡ number_of (value_in self.now.values (Some slot)) }
     {
-        match self.values.get(slot as usize) {
+        match self.kept.values.get(slot as usize) {
             Some(slot) => slot.number(),
             None => 0,
         }
@@ -147,7 +161,7 @@ impl JobLocal {
         match operand {
             Operand::Int(_) => None,
             Operand::Bytes(record) => Some(record.as_slice()),
-            Operand::Variable(slot) => self.values.get(*slot as usize)?.bytes(),
+            Operand::Variable(slot) => self.kept.values.get(*slot as usize)?.bytes(),
         }
     }
 
@@ -169,7 +183,7 @@ impl JobLocal {
         let Some(slot) = slot else {
             return Kind::Int;
         };
-        match self.values.get(slot as usize) {
+        match self.kept.values.get(slot as usize) {
             Some(slot) => slot.kind(),
             None => Kind::Int,
         }
@@ -183,7 +197,7 @@ impl JobLocal {
         let Some(slot) = slot else {
             return;
         };
-        if let Some(place) = self.values.get_mut(slot as usize) {
+        if let Some(place) = self.kept.values.get_mut(slot as usize) {
             *place = new;
         }
     }
@@ -201,8 +215,17 @@ impl JobLocal {
     pub(crate) fn put(&mut self, slot: u32, number: i64)
         ensures { self.new ≡ record self.old { values = with_slot self.old.values (Some slot) (Int number) } }
     {
-        if let Some(slot) = self.values.get_mut(slot as usize) {
+        if let Some(slot) = self.kept.values.get_mut(slot as usize) {
             slot.make_int(number);
+        }
+    }
+
+    /// Sets a slot to a number, where it is there. `O(1)`.
+    pub(crate) fn set_number(&mut self, slot: Option<u32>, number: i64)
+        ensures { self.new ≡ record self.old { values = with_slot self.old.values slot (Int number) } }
+    {
+        if let Some(slot) = slot {
+            self.put(slot, number);
         }
     }
 
@@ -233,7 +256,7 @@ impl JobLocal {
                 return None;
             }
         }
-        self.values.get_mut(to as usize)?.take_growing()
+        self.kept.values.get_mut(to as usize)?.take_growing()
     }
 
     /// Sets a slot, where it is there, to the bytes of two operands, joined. `O(length)`; but `O(length of what is added)`, amortised,
@@ -286,7 +309,7 @@ impl JobLocal {
             (Action::Demand(Demand::Empty(slot, _)), Answer::Flag(is_empty)) => {
                 self.receive(*slot, flag(is_empty));
             }
-            (Action::Demand(Demand::Sync), Answer::Caught(failed)) => self.caught = failed,
+            (Action::Demand(Demand::Sync), Answer::Caught(failed)) => self.kept.caught = failed,
             _ => {}
         }
     }

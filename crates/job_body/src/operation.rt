@@ -20,7 +20,7 @@ pub fn is_true(number: i64) -> bool
 
 /// The number that says yes or no.
 #[inline(always)]
-fn yes(is_so: bool) -> i64
+pub fn yes(is_so: bool) -> i64
     ensures { Int result ≡ flag is_so }
 {
     if is_so { 1 } else { 0 }
@@ -115,14 +115,14 @@ fn up_to(most: usize, number: i64) -> Option<usize>
 }
 
 /// The byte at a place, as a number.
-pub fn byte_at(bytes: &[u8], i: i64) -> Result<Value, Trouble>
-    ensures { result ≡ byte_at bytes.now i }
+pub fn byte_at(bytes: &[u8], i: i64) -> Result<i64, Trouble>
+    ensures { valued result ≡ byte_at bytes.now i }
 {
     let Ok(i) = usize::try_from(i) else {
         return Err(Trouble::Range);
     };
     match bytes.get(i) {
-        Some(byte) => Ok(Value::Int(i64::from(*byte))),
+        Some(byte) => Ok(i64::from(*byte)),
         None => Err(Trouble::Range),
     }
 }
@@ -167,9 +167,9 @@ fn place_from(bytes: &[u8], byte: usize, from: usize) -> i64
 }
 
 /// The least place from i on at which the byte c stands, or -1.
-pub fn found(bytes: &[u8], c: i64, i: i64) -> Result<Value, Trouble>
+pub fn found(bytes: &[u8], c: i64, i: i64) -> Result<i64, Trouble>
     requires { length bytes.now ≤ RECORD_MOST }
-    ensures { result ≡ found bytes.now c i }
+    ensures { valued result ≡ found bytes.now c i }
 {
     let Some(byte) = up_to(255, c) else {
         return Err(Trouble::Range);
@@ -177,15 +177,15 @@ pub fn found(bytes: &[u8], c: i64, i: i64) -> Result<Value, Trouble>
     let Some(from) = up_to(bytes.len(), i) else {
         return Err(Trouble::Range);
     };
-    Ok(Value::Int(place_from(bytes, byte, from)))
+    Ok(place_from(bytes, byte, from))
 }
 
 /// How many bytes there are.
-pub fn length_of(bytes: &[u8]) -> Value
+pub fn length_of(bytes: &[u8]) -> i64
     requires { length bytes.now ≤ RECORD_MOST }
-    ensures { result ≡ Int (pos (length bytes.now)) }
+    ensures { result ≡ pos (length bytes.now) }
 {
-    Value::Int(bytes.len() as i64)
+    bytes.len() as i64
 }
 
 /// Both, joined, with no room to spare. `O(length)`, and one allocation.
@@ -201,11 +201,11 @@ pub fn joined(alloc: Global, a: &[u8], b: &[u8]) -> Result<Vec<u8>, NoMemory>
 }
 
 /// The number that bytes are the text of.
-pub fn numbered(bytes: &[u8]) -> Result<Value, Trouble>
-    ensures { result ≡ numbered (number bytes.now) }
+pub fn numbered(bytes: &[u8]) -> Result<i64, Trouble>
+    ensures { valued result ≡ numbered (number bytes.now) }
 {
     match read_number(bytes) {
-        Some(number) => Ok(Value::Int(number)),
+        Some(number) => Ok(number),
         None => Err(Trouble::BadNumber),
     }
 }

@@ -28,6 +28,7 @@ fn with_zeros(mut values: Vec<Slot>, kinds: &[Kind]) -> Result<Vec<Slot>, NoMemo
 
 /// An activation of the task at a line, by the values of its `param` lines. `O(variables)`.
 pub fn begin(
+    alloc: Global,
     program: &Listed<Instruction>,
     task: &TaskIndex,
     values: Vec<Slot>,
@@ -38,10 +39,10 @@ pub fn begin(
     if let Some(instruction) = program.get(index as usize) {
         if let Action::Demand(Demand::Begin(kinds)) = &instruction.action {
             let values = with_zeros(values, kinds.as_slice())?;
-            return Ok(JobLocal::new(index, instruction.next, values));
+            return JobLocal::new(alloc, index, instruction.next, values);
         }
     }
-    Ok(JobLocal::new(index, index + 1, values))
+    JobLocal::new(alloc, index, index + 1, values)
 }
 
 /// Variables with the values of operands, for someone else.
@@ -81,7 +82,7 @@ fn spawn(
     };
     let values = values_of(alloc, local, params.as_slice())?;
     let child = Child {
-        local: begin(program, task, values)?,
+        local: begin(alloc, program, task, values)?,
         gives: gives.copy(alloc)?,
         fuel,
     };

@@ -18,7 +18,7 @@ enum Held {
     Growing(Vec<u8>),
 }
 
-/// Bytes that fit a record, as a record of exactly their room. `O(length)` where they have room to spare, else `O(1)`.
+/// Bytes that fit a record, as a record that keeps no room to spare. `O(length)` where they have such room, else `O(1)`.
 fn record_of(mut bytes: Vec<u8>) -> Result<Record, NoMemory>
     requires { length bytes.items ≤ RECORD_MOST }
     ensures { IfOk result (λ it. it ≡ bytes.items) }
@@ -34,7 +34,7 @@ fn record_of(mut bytes: Vec<u8>) -> Result<Record, NoMemory>
 /// A variable. Contracts see it as its value.
 ///
 /// Bytes that it was joined of may grow in place, as long as no one else was given them. Whoever gives them makes them a
-/// record first, of exactly their size, which the variable keeps: so they are copied once at most, however often they are given.
+/// record first, without room to spare, which the variable keeps: so they are copied once at most, however often they are given.
 #[derive(Drop)]
 pub struct Slot {
     held: Held,
@@ -129,8 +129,8 @@ impl Slot {
         }
     }
 
-    /// The value of the variable, for someone else. Bytes are shared, and from then on they are a record of exactly their size. `O(1)`,
-    /// but `O(length)` for the first time after bytes were added in place.
+    /// The value of the variable, for someone else. Bytes are shared, and from then on they are a record without room to spare. `O(1)`,
+    /// but `O(length)` for the first time after bytes were added in place. After want of memory the variable may be the number 0.
     #[inline(always)]
     pub fn give(&mut self) -> Result<Value, NoMemory>
         ensures value { IfOk result (λ it. it ≡ self.old) }
@@ -145,8 +145,8 @@ impl Slot {
     }
 
     /// The bytes from the place i on up to, without, the place j. A number has none. They are shared with the variable, whose bytes
-    /// are a record of exactly their size from then on. `O(1)`, but `O(length)` for the first time after bytes were added in
-    /// place.
+    /// are a record without room to spare from then on. `O(1)`, but `O(length)` for the first time after bytes were added in
+    /// place. After want of memory the variable may be the number 0.
     pub fn part(&mut self, i: i64, j: i64) -> Result<Result<Value, Trouble>, NoMemory>
         ensures part { IfOk result (λ it. it ≡ part (bytes_of self.old) i j) }
         ensures kept { OnOk result (self.new ≡ self.old) }
@@ -158,8 +158,8 @@ impl Slot {
         }
     }
 
-    /// The bytes of the variable as a record of exactly their size, which it keeps and shares. A number has none. `O(1)`, but
-    /// `O(length)` for bytes with room to spare.
+    /// The bytes of the variable as a record without room to spare, which it keeps and shares. A number has none. `O(1)`, but
+    /// `O(length)` for bytes with such room. After want of memory the variable may be the number 0.
     #[inline(never)]
     fn settle(&mut self) -> Result<Record, NoMemory>
         ensures record { IfOk result (λ it. it ≡ bytes_of self.old) }
