@@ -16,16 +16,15 @@ use Rattle.task_frames.specs.declared.steps.Steps.{Steps}
 use Rattle.task_frames.specs.Cores.{MayBegin, FrameAtCoreView, CoreView, HasIt, IsCore, KeptView, after_coming_in}
 use Rattle.task_frames.specs.Frames.{FrameView, TaskView}
 use Rattle.task_frames.specs.Records.{HasNoLiveChild, IsLiveChild, as_given, come_at, live_at}
-use Rattle.task_frames.specs.Resumes.{MayStep, AreOfPlan, EndsOf, HasLent, HasNoChildAtCore, HaveCome, IsAnswered, IsNewChildOf, IsGivenAs, IsGivenBy, IsLast, IsLiveBefore, IsOneOn, IsResumed, IsShown, IsStep, OnGoneOn, OthersKept, OthersStay, waited_for}
-use Rattle.task_frames.proofs.AsGiven.{none-given}
+use Rattle.task_frames.specs.Resumes.{MayStep, AreOfPlan, EndsOf, HasLent, HasNoChildAtCore, HaveCome, IsAnswered, IsNewChildOf, IsGivenAs, IsGivenBy, IsLast, IsLiveBefore, IsOneOn, IsResumed, IsShown, IsStep, OnGoneOn, OthersKept, OthersKeptAtEnd, OthersStay, OthersStayAtEnd, waited_for}
 use Rattle.task_frames.proofs.Given.{given-stays, has-stays}
-use Rattle.task_frames.proofs.Lives.{child-comes, come-only}
+use Rattle.task_frames.proofs.Lives.{child-came, child-comes, come-only}
 
 -- ---- frames that are given one after the other
 
 pub lent-others : (before after : KeptView) (n : ℕ) → HasLent before after n → OthersStay before after (λ other. other ≢ n)
 lent-others before after n lent = record {
-  live = λ other differs. ap (λ (k : KeptView). option_map as_given (live_at k.live other)) lent.after_is;
+  live = λ other differs. ap (λ (k : KeptView). live_at k.live other) lent.after_is;
   active_are = λ other differs. ap (λ (k : KeptView). active k.state other) lent.after_is
       ∙ (one_goes_on before.state n lent.own (λ x. record x { lent = Some (record { deeds = lent.own.deeds; ends = lent.list }) }) (λ x. refl) lent.active_is).others other differs;
 }
@@ -97,6 +96,10 @@ module _ {B L E : Type 0} (G : Ghosts B L) (of : EndsOf E) (before after : CoreV
   kept-others IsOther stay = λ x is y its.
       subst (λ k. OthersStay k y IsOther) (same_Some start x (sym start_is ∙ is)) (subst (λ k. OthersStay start k IsOther) (same_Some given y (sym given_is ∙ its)) stay)
 
+  kept-at-end : OthersStayAtEnd start given n → OthersKeptAtEnd before after n
+  kept-at-end stay = λ x is y its.
+      subst (λ k. OthersStayAtEnd k y n) (same_Some start x (sym start_is ∙ is)) (subst (λ k. OthersStayAtEnd start k n) (same_Some given y (sym given_is ∙ its)) stay)
+
   given-by : (next : FrameAtCoreView B L) (it : FrameView B L E) → next.task.plan ≡ frame.task.plan → IsGivenAs of given next it → IsGivenBy of after it
   given-by next it same so = record {
     kept = given;
@@ -111,6 +114,25 @@ module _ {B L E : Type 0} (G : Ghosts B L) (of : EndsOf E) (before after : CoreV
   from-start : (IsOther : ℕ → Type 0) → ((m : ℕ) → IsOther m → m ≢ n) → OthersStay taken stepped IsOther → OthersStay stepped given IsOther → OthersStay start given IsOther
   from-start IsOther apart second third =
       then-stay start taken given IsOther (fewer-stay start taken (λ other. other ≢ n) IsOther apart others) (then-stay taken stepped given IsOther second third)
+
+  -- who is its parent once the frame has come in was so before
+  was-child : (other : ℕ) → IsLiveChild taken.live other n → IsLiveChild start.live other n
+  was-child other child =
+      let frame-then = live_at start.live n in
+      child-came start.live (come_at start.live n frame.task.done frame-then) n frame.task.done other n (come-only start.live _ n frame.task.done frame-then refl refl)
+      (subst (λ (k : KeptView). IsLiveChild k.live other n) come child)
+
+  end-from-start : OthersStayAtEnd taken stepped n → OthersStayAtEnd start stepped n
+  end-from-start stay = (
+    record {
+      live = λ other differs. stay.0.live other differs ∙ ap (option_map as_given) (others.live other differs);
+      active_are = λ other differs. stay.0.active_are other differs ∙ others.active_are other differs;
+    },
+    record {
+      live = λ other apart. stay.1.live other (apart.0, λ child. apart.1 (was-child other child)) ∙ others.live other apart.0;
+      active_are = λ other apart. stay.1.active_are other (apart.0, λ child. apart.1 (was-child other child)) ∙ others.active_are other apart.0;
+    },
+  )
 
   -- who has no child once the frame has come in had none before
   no-child : HasNoLiveChild taken.live n → HasNoChildAtCore before n
@@ -156,7 +178,7 @@ module _ {B L E : Type 0} (G : Ghosts B L) (of : EndsOf E) (before after : CoreV
         subst (IsNewChildOf frame.task) (sym answered.2.task) (record { plan = so.3.plan; path = so.3.path; done = so.3.done; other = so.3.other }),
         so.4,
         (λ x is. subst (λ (k : KeptView). live_at k.live child.task.number ≡ None) (same_Some start x (sym start_is ∙ is))
-            (none-given start.live taken.live child.task.number (others.live child.task.number (λ same. so.3.other (sym child_own ∙ same))) (ap (live_at taken.live) child_own ∙ so.5))),
+            (sym (others.live child.task.number (λ same. so.3.other (sym child_own ∙ same))) ∙ ap (live_at taken.live) child_own ∙ so.5)),
         kept-others IsOther (from-start IsOther (λ m apart. apart.0)
             (fewer-stay taken stepped (λ other. (other ≢ n) × (other ≢ new.task.number)) IsOther (λ m apart. (apart.0, λ same. apart.1 (same ∙ sym child_own))) so.6)
             (fewer-stay stepped given (λ other. (other ≢ parent.task.number) × (other ≢ new.task.number)) IsOther (λ m apart. (λ same. apart.0 (same ∙ own), λ same. apart.1 (same ∙ sym child_own))) answered.3)),
@@ -191,7 +213,7 @@ module _ {B L E : Type 0} (G : Ghosts B L) (of : EndsOf E) (before after : CoreV
     so.1,
     so.2,
     (λ x is. subst (λ (k : KeptView). live_at k.live n ≡ None) (same_Some given x (sym given_is ∙ is)) (subst (λ (k : KeptView). live_at k.live n ≡ None) (sym answered.1) so.3)),
-    kept-others (λ other. other ≢ n) (from-start (λ other. other ≢ n) (λ m apart. apart) so.4 (subst (λ k. OthersStay stepped k (λ other. other ≢ n)) (sym answered.1) (all-stay stepped (λ other. other ≢ n)))),
+    kept-at-end (subst (λ k. OthersStayAtEnd start k n) (sym answered.1) (end-from-start so.4)),
     no-child so.5,
     may-step so.6,
   )

@@ -42,7 +42,6 @@ use Rattle.task_frames.specs.Cores.{FrameAtCoreView, HasIt, IsAtCore, IsCore, Ke
 use Rattle.task_frames.specs.Records.{IsOnlyLive, NumberedFrames, come_to, holding_too, live_at}
 use Rattle.task_frames.specs.Resumes.{IsStep}
 use Rattle.task_frames.proofs.AtQueues.{a, a-back, a-live, asked, done-now, for-next, law, may-do, told}
-use Rattle.task_frames.proofs.AsGiven.{others-given}
 use Rattle.task_frames.proofs.Booked as booked
 use Rattle.task_frames.proofs.Counted as counted
 use Rattle.task_frames.proofs.Failing.{still-one}
@@ -175,7 +174,7 @@ module _ {B L : Type 0} (G : Ghosts B L) (kept : KeptView) (mid : Mid B L) (asks
       }
 
       pub places : IsStep G kept after mid.task (step.Runs more)
-      places = (has-next, refl, ap is_spawn gets.deed ∙ no_spawn, record { live = others-given kept.live after.live mid.task.number _ only; active_are = changed.others }, λ is. absurd (no_wait (sym gets.deed ∙ is)), begun)
+      places = (has-next, refl, ap is_spawn gets.deed ∙ no_spawn, record { live = only.others; active_are = changed.others }, λ is. absurd (no_wait (sym gets.deed ∙ is)), begun)
 
   -- the record, by what stood in it
   pub held-more : (then_live : NumberedFrames) (h : Holding) → IsOnlyLive kept.live then_live mid.task.number (option_map (come_to (mid.task.done + 1)) (option_map (holding_too h) (live_at kept.live mid.task.number)))

@@ -24,7 +24,6 @@ use Rattle.task_frames.specs.Cores.{FrameAtCoreView, HasIt, IsCore, IsGiven, IsO
 use Rattle.task_frames.specs.Frames.{AreEndsOf, AreLocal, FrameView, IsFrame, TaskView}
 use Rattle.task_frames.specs.Records.{IsOnlyLive, LiveFrame, NumberedFrames, come_at, come_to, live_at}
 use Rattle.task_frames.specs.Resumes.{EndsOf, HasLent, IsGivenAs, OthersStay}
-use Rattle.task_frames.proofs.AsGiven.{others-given}
 use Rattle.task_frames.proofs.Booked as booked
 use Rattle.task_frames.proofs.Counted as counted
 use Rattle.task_frames.proofs.Failing.{still-local}
@@ -126,7 +125,7 @@ module _ {B L : Type 0} (G : Ghosts B L) (kept : KeptView) (task : TaskView B L)
       taken = subst (λ k. HasIt G k (record { task = record task { since = task.done }; stage = stage })) (sym after_is) has-now
 
       pub taken-others : OthersStay kept after (λ other. other ≢ task.number)
-      taken-others = subst (λ k. OthersStay kept k (λ other. other ≢ task.number)) (sym after_is) (record { live = others-given kept.live after.live task.number (Some (come_to task.done f)) only; active_are = changed-now.others })
+      taken-others = subst (λ k. OthersStay kept k (λ other. other ≢ task.number)) (sym after_is) (record { live = only.others; active_are = changed-now.others })
 
 -- ---- it is given
 

@@ -37,7 +37,7 @@ use Rattle.task_frames.specs.declared.step.Step.TheVariants as step
 use Rattle.task_frames.specs.Cores.{MayBegin, FrameAtCoreView, CoreView, HasIt, IsCore, IsGiven, KeptView, after_coming_in}
 use Rattle.object_versions.specs.Following.{WaitsForNone}
 use Rattle.task_frames.specs.Frames.{FrameView, TaskView, is_whole, root_task}
-use Rattle.task_frames.specs.Records.{HasNoLiveChild, IsOldestChild, LiveFrame, NumberedFrames, as_given, live_at}
+use Rattle.task_frames.specs.Records.{HasNoLiveChild, IsLiveChild, IsOldestChild, LiveFrame, NumberedFrames, as_given, live_at}
 
 -- ---- waits
 
@@ -121,11 +121,22 @@ MayNotUse holdings (ask.Empty place) = number_at holdings place Pop ≡ None
 MayNotUse holdings (ask.Spawn new) = given holdings new.gives ≡ None
 MayNotUse holdings _ = ⊥
 
--- These frames are in the record as they were given, and among the queues as before. (How many of their children failed is what the
--- core counts: `AreCounted`.)
+-- These frames are in the record, and among the queues, as before.
 pub record OthersStay (before after : KeptView) (IsOther : ℕ → Type 0) : Type 0 where
+  pub live : (other : ℕ) → IsOther other → live_at after.live other ≡ live_at before.live other
+  pub active_are : (other : ℕ) → IsOther other → active after.state other ≡ active before.state other
+
+-- They are in the record as they were given, and among the queues as before. (How many of their children failed is what the core
+-- counts: `AreCounted`.)
+pub record OthersStayAsGiven (before after : KeptView) (IsOther : ℕ → Type 0) : Type 0 where
   pub live : (other : ℕ) → IsOther other → option_map as_given (live_at after.live other) ≡ option_map as_given (live_at before.live other)
   pub active_are : (other : ℕ) → IsOther other → active after.state other ≡ active before.state other
+
+-- Where the frame of this number ends, all others stay as they were given, and all but the one above it as they were.
+abbrev pub OthersStayAtEnd : (before after : KeptView) (number : ℕ) → Type 0
+OthersStayAtEnd before after number =
+    OthersStayAsGiven before after (λ other. other ≢ number)
+    × OthersStay before after (λ other. (other ≢ number) × (¬ IsLiveChild before.live other number))
 
 -- the same task with one step more done
 abbrev pub IsOneOn : {B L : Type 0} → (before after : TaskView B L) → Type 0
@@ -156,7 +167,7 @@ module _ {B L : Type 0} (G : Ghosts B L) (before after : KeptView) (task : TaskV
       × IsShown G after same wait_for × IsLiveBefore after.live task.path (waited_for wait_for)
   IsStep step.Ended =
       IsCore G task.plan after × IsLast G task × (is_spawn (deed_now G task) ≡ false)
-      × (live_at after.live task.number ≡ None) × OthersStay before after (λ other. other ≢ task.number)
+      × (live_at after.live task.number ≡ None) × OthersStayAtEnd before after task.number
       × HasNoLiveChild before.live task.number × MayBegin before task.number
 
 -- ---- frames that are given
@@ -243,6 +254,10 @@ pub record IsShownBy {B L E : Type 0} (G : Ghosts B L) (of : EndsOf E) (before a
 abbrev pub OthersKept : {B L : Type 0} → (before after : CoreView B L) → (ℕ → Type 0) → Type 0
 OthersKept before after IsOther = ForSome before.kept (λ kept. ForSome after.kept (λ now. OthersStay kept now IsOther))
 
+-- and so they are where the frame of this number has ended, but the one above it may have one more failed child
+abbrev pub OthersKeptAtEnd : {B L : Type 0} → (before after : CoreView B L) → ℕ → Type 0
+OthersKeptAtEnd before after number = ForSome before.kept (λ kept. ForSome after.kept (λ now. OthersStayAtEnd kept now number))
+
 -- once the frame has come in it has its turn to pop, and waits for nothing that it was given to read
 abbrev pub MayStep : {B L E : Type 0} → EndsOf E → CoreView B L → FrameView B L E → Type 0
 MayStep of before frame = ForSome before.kept (λ kept. MayBegin (after_coming_in kept frame.task (of.ends frame.ends)) frame.task.number)
@@ -270,7 +285,7 @@ module _ {B Q L E : Type 0} (G : Ghosts B L) (of : EndsOf E) (before after : Cor
       × OthersKept before after (λ other. other ≢ frame.task.number)
   IsResumed (resumed.Ended steps) =
       (steps.count ≡ 1) × (is_some after.kept ≡ true) × IsLast G frame.task × (is_spawn (deed_now G frame.task) ≡ false) × HasNone after frame.task.number
-      × OthersKept before after (λ other. other ≢ frame.task.number)
+      × OthersKeptAtEnd before after frame.task.number
       × HasNoChildAtCore before frame.task.number × MayStep of before frame
   IsResumed (resumed.Strange same foreign) =
       (same ≡ frame) × (foreign.number ≡ frame.task.number) × (after ≡ before)
