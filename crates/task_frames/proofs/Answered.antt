@@ -16,7 +16,7 @@ use Rattle.task_frames.specs.declared.steps.Steps.{Steps}
 use Rattle.task_frames.specs.Cores.{MayBegin, FrameAtCoreView, CoreView, HasIt, IsCore, KeptView, after_coming_in}
 use Rattle.task_frames.specs.Frames.{FrameView, TaskView}
 use Rattle.task_frames.specs.Records.{HasNoLiveChild, IsLiveChild, as_given, come_at, live_at}
-use Rattle.task_frames.specs.Resumes.{MayStep, AreOfPlan, EndsOf, HasLent, HasNoChildAtCore, HaveCome, IsAnswered, IsNewChildOf, IsGivenAs, IsGivenBy, IsLast, IsLiveBefore, IsOneOn, IsResumed, IsShown, IsStep, OnGoneOn, OthersKept, OthersKeptAtEnd, OthersStay, OthersStayAtEnd, waited_for}
+use Rattle.task_frames.specs.Resumes.{MayStep, AreOfPlan, EndsOf, HasCounted, HasCountedAtCore, HasLent, HasNoChildAtCore, HaveCome, IsAnswered, IsNewChildOf, IsGivenAs, IsGivenBy, IsLast, IsLiveBefore, IsNextNumber, IsOneOn, IsResumed, IsShown, IsStep, OnGoneOn, OthersKept, OthersKeptAtEnd, OthersStay, OthersStayAtEnd, waited_for}
 use Rattle.task_frames.proofs.Given.{given-stays, has-stays}
 use Rattle.task_frames.proofs.Lives.{child-came, child-comes, come-only}
 
@@ -31,6 +31,12 @@ lent-others before after n lent = record {
 
 pub lent-run : (before after : KeptView) (n : ℕ) → HasLent before after n → after.run ≡ before.run
 lent-run before after n lent = ap (λ (k : KeptView). k.run) lent.after_is
+
+pub lent-count : (before after : KeptView) (n : ℕ) → HasLent before after n → HasCounted before after 0
+lent-count before after n lent = let same : after.frames ≡ before.frames = ap (λ (k : KeptView). k.frames) lent.after_is in omega (arith, same)
+
+then-count : (a b c : KeptView) → HasCounted a b 0 → HasCounted b c 0 → HasCounted a c 0
+then-count a b c first then = omega (arith, first, then)
 
 then-stay : (a b c : KeptView) (IsOther : ℕ → Type 0) → OthersStay a b IsOther → OthersStay b c IsOther → OthersStay a c IsOther
 then-stay a b c IsOther first then = record {
@@ -70,12 +76,14 @@ module _ {B L : Type 0} (G : Ghosts B L) (before middle : KeptView) (plan : Plan
             (lent-others before middle parent.task.number lent))
             (fewer-stay middle after (λ other. other ≢ child.task.number) (λ other. (other ≢ parent.task.number) × (other ≢ child.task.number)) (λ n both_apart. both_apart.1)
             (lent-others middle after child.task.number then)),
+        then-count before middle after (lent-count before middle parent.task.number lent) (lent-count middle after child.task.number then),
       )
 
 pub runs-answered : {B L E : Type 0} (Q : Type 0) (of : EndsOf E) (before after : KeptView) (its : Step B L) (next : FrameAtCoreView B L) (frame : FrameView B L E) (steps : Steps) → its ≡ step.Runs next → steps.count ≡ 1
     → IsGivenAs of after next frame → HasLent before after next.task.number → IsAnswered {Q = Q} of before after its (resumed.Runs frame steps)
 runs-answered Q of before after its next frame steps is one given lent =
-    subst (λ x. IsAnswered {Q = Q} of before after x (resumed.Runs frame steps)) (sym is) (one, given, lent-others before after next.task.number lent)
+    subst (λ x. IsAnswered {Q = Q} of before after x (resumed.Runs frame steps)) (sym is)
+    (one, given, lent-others before after next.task.number lent, lent-count before after next.task.number lent)
 
 -- ---- a frame that is resumed
 
@@ -95,6 +103,23 @@ module _ {B L E : Type 0} (G : Ghosts B L) (of : EndsOf E) (before after : CoreV
   kept-others : (IsOther : ℕ → Type 0) → OthersStay start given IsOther → OthersKept before after IsOther
   kept-others IsOther stay = λ x is y its.
       subst (λ k. OthersStay k y IsOther) (same_Some start x (sym start_is ∙ is)) (subst (λ k. OthersStay start k IsOther) (same_Some given y (sym given_is ∙ its)) stay)
+
+  -- how many frames there were
+  frames-taken : taken.frames ≡ start.frames
+  frames-taken = ap (λ (k : KeptView). k.frames) come
+
+  counted-on : (more : ℕ) → HasCounted taken stepped more → HasCounted stepped given 0 → HasCountedAtCore before after more
+  counted-on more goes stays = λ x is y its.
+      let first : start.frames ≡ x.frames = ap (λ (k : KeptView). k.frames) (same_Some start x (sym start_is ∙ is)) in
+      let last : given.frames ≡ y.frames = ap (λ (k : KeptView). k.frames) (same_Some given y (sym given_is ∙ its)) in
+      omega (arith, first, last, frames-taken, goes, stays)
+
+  next-number : (number : ℕ) → number ≡ taken.frames → IsNextNumber before number
+  next-number number is = λ x kept_is. is ∙ frames-taken ∙ ap (λ (k : KeptView). k.frames) (same_Some start x (sym start_is ∙ kept_is))
+
+  -- where nothing was changed
+  counted-same : (a b : KeptView) → b ≡ a → HasCounted a b 0
+  counted-same a b same = let frames : b.frames ≡ a.frames = ap (λ (k : KeptView). k.frames) same in omega (arith, frames)
 
   kept-at-end : OthersStayAtEnd start given n → OthersKeptAtEnd before after n
   kept-at-end stay = λ x is y its.
@@ -161,6 +186,7 @@ module _ {B L E : Type 0} (G : Ghosts B L) (of : EndsOf E) (before after : CoreV
             (fewer-stay stepped given (λ other. other ≢ next.task.number) (λ other. other ≢ n) (λ m apart same. apart (same ∙ own)) answered.2)),
         (λ sync. no-child (so.4 sync)),
         may-step so.5,
+        counted-on 0 so.6 answered.3,
       )
     where
       same-rest : (a : FrameAtCoreView B L) (b : FrameView B L E) → b.task ≡ a.task
@@ -183,6 +209,8 @@ module _ {B L E : Type 0} (G : Ghosts B L) (of : EndsOf E) (before after : CoreV
             (fewer-stay taken stepped (λ other. (other ≢ n) × (other ≢ new.task.number)) IsOther (λ m apart. (apart.0, λ same. apart.1 (same ∙ sym child_own))) so.6)
             (fewer-stay stepped given (λ other. (other ≢ parent.task.number) × (other ≢ new.task.number)) IsOther (λ m apart. (λ same. apart.0 (same ∙ own), λ same. apart.1 (same ∙ sym child_own))) answered.3)),
         may-step so.7,
+        next-number child.task.number (child_own ∙ so.8),
+        counted-on 1 so.9 answered.4,
       )
   resumed-cases Q (step.Waits same wait_for) (resumed.Waits it waited) so answered =
       let its_so = answered.1 in
@@ -206,6 +234,7 @@ module _ {B L E : Type 0} (G : Ghosts B L) (of : EndsOf E) (before after : CoreV
         },
         kept-others (λ other. other ≢ n) (from-start (λ other. other ≢ n) (λ m apart. apart) (subst (λ k. OthersStay taken k (λ other. other ≢ n)) (sym so.1) (all-stay taken (λ other. other ≢ n)))
             (fewer-stay stepped given (λ other. other ≢ same.task.number) (λ other. other ≢ n) (λ m apart eq. apart (eq ∙ own)) (lent-others stepped given same.task.number answered.2))),
+        counted-on 0 (counted-same taken stepped so.1) (lent-count stepped given same.task.number answered.2),
       )
   resumed-cases Q step.Ended (resumed.Ended steps) so answered = (
     answered.0,
@@ -216,6 +245,7 @@ module _ {B L E : Type 0} (G : Ghosts B L) (of : EndsOf E) (before after : CoreV
     kept-at-end (subst (λ k. OthersStayAtEnd start k n) (sym answered.1) (end-from-start so.4)),
     no-child so.5,
     may-step so.6,
+    counted-on 0 so.7 (counted-same stepped given answered.1),
   )
   resumed-cases Q (step.Runs next) (resumed.Spawned it child steps) so answered = absurd answered
   resumed-cases Q (step.Runs next) (resumed.Waits it waited) so answered = absurd answered

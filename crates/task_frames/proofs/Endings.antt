@@ -1,5 +1,5 @@
 -- A frame at the core that ends by its next step, or has to wait for its children before it may.
-use Rattle.std.proofs.Common.{◌≡◌, ◌≢◌, inr, ℕ, false, None, [], ◌∷◌, ◌++◌, refl, sym, ap, subst, ◌∙◌}
+use Rattle.std.proofs.Common.{◌≡◌, ◌≢◌, inr, ℕ, false, None, [], ◌∷◌, ◌++◌, refl, sym, ap, subst, ◌∙◌, arith}
 use Rattle.std.specs.Option.{option_map}
 use Rattle.swan_model.specs.declared.body.Body.{Ghosts}
 use Rattle.swan_model.specs.declared.fault.Fault.{Fault}
@@ -101,6 +101,7 @@ module _ {B L : Type 0} (G : Ghosts B L) (kept : KeptView) (frame : FrameAtCoreV
         ),
         alone,
         begun,
+        omega (arith, count),
       )
         where
           stays : (other : ℕ) → other ≢ task.number → option_map as_given (live_at after.live other) ≡ option_map as_given (live_at kept.live other)

@@ -177,6 +177,7 @@ module _ {B L : Type 0} (G : Ghosts B L) (kept : KeptView) (mid : Mid B L) (asks
         record { live = only.others; active_are = changed.others },
         λ is. childless (sym goes.deed ∙ is),
         begun,
+        omega (arith, count),
       )
 
     abbrev n : ℕ

@@ -413,6 +413,8 @@ module _ {B L : Type 0} (G : Ghosts B L) (kept : KeptView) (mid : Mid B L) (chil
               active_are = λ m apart. active-after m ∙ others_spawned kept.state n kept.frames a (queue_rights hs) own-live free m apart.0 apart.1;
             },
             begun,
+            refl,
+            ap (λ (k : KeptView). k.frames) is.rest,
           )
 
         -- ---- by what the calls answer

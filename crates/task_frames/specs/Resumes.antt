@@ -138,6 +138,10 @@ OthersStayAtEnd before after number =
     OthersStayAsGiven before after (λ other. other ≢ number)
     × OthersStay before after (λ other. (other ≢ number) × (¬ IsLiveChild before.live other number))
 
+-- there were so many frames more since then
+abbrev pub HasCounted : (before after : KeptView) (more : ℕ) → Type 0
+HasCounted before after more = after.frames ≡ before.frames + more
+
 -- the same task with one step more done
 abbrev pub IsOneOn : {B L : Type 0} → (before after : TaskView B L) → Type 0
 IsOneOn before after = after ≡ record before { done = before.done + 1; since = before.done + 1; fuel = after.fuel; holdings = after.holdings; children = after.children }
@@ -152,23 +156,23 @@ pub record IsNewChildOf {B L : Type 0} (parent child : TaskView B L) : Type 0 wh
 module _ {B L : Type 0} (G : Ghosts B L) (before after : KeptView) (task : TaskView B L) where
   -- What a step at the core leaves: the frame one step on; or with its child; or as it was, but for the ask of its body, with what it
   -- waits for; or it has ended. A wait for all children is over only where there is none, and so is the frame. No step is taken of a
-  -- frame that may not begin.
+  -- frame that may not begin. The number of a child is how many frames there were.
   abbrev pub IsStep : Step B L → Type 0
   IsStep (step.Runs next) =
       HasIt G after next × IsOneOn task next.task × (is_spawn (deed_now G task) ≡ false)
       × OthersStay before after (λ other. other ≢ task.number)
-      × (deed_now G task ≡ deed.Sync → HasNoLiveChild before.live task.number) × MayBegin before task.number
+      × (deed_now G task ≡ deed.Sync → HasNoLiveChild before.live task.number) × MayBegin before task.number × HasCounted before after 0
   IsStep (step.Spawned parent new) =
       HasIt G after parent × HasIt G after new × IsOneOn task parent.task × IsNewChildOf task new.task × (is_spawn (deed_now G task) ≡ true)
       × (live_at before.live new.task.number ≡ None) × OthersStay before after (λ other. (other ≢ task.number) × (other ≢ new.task.number))
-      × MayBegin before task.number
+      × MayBegin before task.number × (new.task.number ≡ before.frames) × HasCounted before after 1
   IsStep (step.Waits same wait_for) =
       HasIt G after same × (after ≡ before) × (same.task ≡ record task { fuel = same.task.fuel })
       × IsShown G after same wait_for × IsLiveBefore after.live task.path (waited_for wait_for)
   IsStep step.Ended =
       IsCore G task.plan after × IsLast G task × (is_spawn (deed_now G task) ≡ false)
       × (live_at after.live task.number ≡ None) × OthersStayAtEnd before after task.number
-      × HasNoLiveChild before.live task.number × MayBegin before task.number
+      × HasNoLiveChild before.live task.number × MayBegin before task.number × HasCounted before after 0
 
 -- ---- frames that are given
 
@@ -214,10 +218,10 @@ module _ {B Q L E : Type 0} (of : EndsOf E) (before after : KeptView) where
   -- What is answered of a step: the frames are given that came of it, and all others are kept as before.
   abbrev pub IsAnswered : Step B L → Resumed B Q L E → Type 0
   IsAnswered (step.Runs next) (resumed.Runs frame steps) =
-      (steps.count ≡ 1) × IsGivenAs of after next frame × OthersStay before after (λ other. other ≢ next.task.number)
+      (steps.count ≡ 1) × IsGivenAs of after next frame × OthersStay before after (λ other. other ≢ next.task.number) × HasCounted before after 0
   IsAnswered (step.Spawned parent new) (resumed.Spawned frame spawned steps) =
       (steps.count ≡ 1) × IsGivenAs of after parent frame × IsGivenAs of after new spawned
-      × OthersStay before after (λ other. (other ≢ parent.task.number) × (other ≢ new.task.number))
+      × OthersStay before after (λ other. (other ≢ parent.task.number) × (other ≢ new.task.number)) × HasCounted before after 0
   IsAnswered (step.Waits same wait_for) (resumed.Waits frame waited) =
       (waited.wait ≡ wait_for) × IsGivenAs of after same frame × HasLent before after same.task.number
   IsAnswered step.Ended (resumed.Ended steps) = (steps.count ≡ 1) × (after ≡ before)
@@ -270,23 +274,32 @@ HasNone core number = ForSome core.kept (λ kept. live_at kept.live number ≡ N
 abbrev pub HasNoChildAtCore : {B L : Type 0} → CoreView B L → ℕ → Type 0
 HasNoChildAtCore core number = ForSome core.kept (λ kept. HasNoLiveChild kept.live number)
 
+-- the next new frame of the core has this number, which is how many frames there were
+abbrev pub IsNextNumber : {B L : Type 0} → CoreView B L → ℕ → Type 0
+IsNextNumber core number = ForSome core.kept (λ kept. number ≡ kept.frames)
+
+-- the core had so many frames more since then
+abbrev pub HasCountedAtCore : {B L : Type 0} → (before after : CoreView B L) (more : ℕ) → Type 0
+HasCountedAtCore before after more = ForSome before.kept (λ kept. ForSome after.kept (λ now. HasCounted kept now more))
+
 module _ {B Q L E : Type 0} (G : Ghosts B L) (of : EndsOf E) (before after : CoreView B L) (frame : FrameView B L E) where
   abbrev pub IsResumed : Resumed B Q L E → Type 0
   IsResumed (resumed.Runs next steps) =
       (steps.count ≡ 1) × IsGivenBy of after next × IsOneOn frame.task next.task × (is_spawn (deed_now G frame.task) ≡ false)
       × OthersKept before after (λ other. other ≢ frame.task.number)
-      × (deed_now G frame.task ≡ deed.Sync → HasNoChildAtCore before frame.task.number) × MayStep of before frame
+      × (deed_now G frame.task ≡ deed.Sync → HasNoChildAtCore before frame.task.number) × MayStep of before frame × HasCountedAtCore before after 0
   IsResumed (resumed.Spawned parent new steps) =
       (steps.count ≡ 1) × IsGivenBy of after parent × IsGivenBy of after new × IsOneOn frame.task parent.task × IsNewChildOf frame.task new.task
       × (is_spawn (deed_now G frame.task) ≡ true) × HasNone before new.task.number
       × OthersKept before after (λ other. (other ≢ frame.task.number) × (other ≢ new.task.number)) × MayStep of before frame
+      × IsNextNumber before new.task.number × HasCountedAtCore before after 1
   IsResumed (resumed.Waits same waited) =
       IsGivenBy of after same × (same.task ≡ record frame.task { since = frame.task.done; fuel = same.task.fuel }) × IsShownBy G of before after frame same waited.wait
-      × OthersKept before after (λ other. other ≢ frame.task.number)
+      × OthersKept before after (λ other. other ≢ frame.task.number) × HasCountedAtCore before after 0
   IsResumed (resumed.Ended steps) =
       (steps.count ≡ 1) × (is_some after.kept ≡ true) × IsLast G frame.task × (is_spawn (deed_now G frame.task) ≡ false) × HasNone after frame.task.number
       × OthersKeptAtEnd before after frame.task.number
-      × HasNoChildAtCore before frame.task.number × MayStep of before frame
+      × HasNoChildAtCore before frame.task.number × MayStep of before frame × HasCountedAtCore before after 0
   IsResumed (resumed.Strange same foreign) =
       (same ≡ frame) × (foreign.number ≡ frame.task.number) × (after ≡ before)
       × ForSome before.kept (λ kept. ¬ IsGiven kept frame.task (of.ends frame.ends))
@@ -306,11 +319,12 @@ OnGoneOn _ Holds = Unit {0}
 
 -- ---- the beginning
 
--- The root is the one frame that the core has, as it gave it. It has taken no step, and no fault is booked.
+-- The root is the one frame that the core has and had, as it gave it. It has taken no step, and no fault is booked.
 pub record IsOpened {B L E : Type 0} (of : EndsOf E) (core : CoreView B L) (root : FrameView B L E) : Type 0 where
   pub given : IsGivenBy of core root
   pub first : root.task.number ≡ 0
   pub alone : (kept : KeptView) → core.kept ≡ Some kept → (number : ℕ) (live : LiveFrame) → live_at kept.live number ≡ Some live → number ≡ 0
+  pub count : (kept : KeptView) → core.kept ≡ Some kept → kept.frames ≡ 1
   pub task : root.task ≡ root_task core.plan (root_holdings core.plan.roots)
   pub begins : root.stage ≡ Some (Ready core.plan.root_local answer.Start)
   pub faultless : (kept : KeptView) → core.kept ≡ Some kept → kept.faults ≡ []
