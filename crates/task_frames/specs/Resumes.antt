@@ -14,6 +14,7 @@ use Rattle.swan_model.specs.Elision.{root_holdings}
 use Rattle.swan_model.specs.Granted.{is_spawn}
 use Rattle.swan_model.specs.PathOrder.{comes_before}
 use Rattle.swan_model.specs.QueueState.{ActiveFrame, LentEnd, active, after_lend}
+use Rattle.swan_model.specs.Rights.{allows}
 use Rattle.swan_model.specs.Script.{script}
 use Rattle.swan_model.specs.SerialState.{Activation, Holding}
 use Rattle.swan_model.specs.SerialStep.{given, number_at}
@@ -91,9 +92,10 @@ module _ {B L : Type 0} (G : Ghosts B L) where
 
   module _ (kept : KeptView) (frame : FrameAtCoreView B L) where
     -- A version is waited for where it was given to the frame to read, before the first step; or where the frame asks to read it.
+    -- Either way the frame may read it.
     pub data WaitsForVersion (number : ℕ) : Type 0 where
-      at_first : (place : ℕ) → frame.task.done ≡ 0 → Awaits kept.versions frame.task.number place number → WaitsForVersion number
-      at_read : (local : L) (place at : ℕ) (object : Placed) → frame.stage ≡ Asking local (ask.Read place) at
+      at_first : (place : ℕ) → frame.task.done ≡ 0 → (awaits : Awaits kept.versions frame.task.number place number) → allows awaits.object.mode In ≡ true → WaitsForVersion number
+      at_read : (local : L) (place at : ℕ) (object : Placed) → frame.stage ≡ Asking local (ask.Read place) at → number_at frame.task.holdings place In ≡ Some object.object
           → placed_at kept.versions frame.task.number place ≡ Some object → object.present ≡ owed number → WaitsForVersion number
 
     -- A turn to pop is waited for before the first step, where no version is, of the oldest sibling that pops what the frame pops; or
