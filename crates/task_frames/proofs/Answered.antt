@@ -16,7 +16,7 @@ use Rattle.task_frames.specs.declared.steps.Steps.{Steps}
 use Rattle.task_frames.specs.Cores.{MayBegin, FrameAtCoreView, CoreView, HasIt, IsCore, KeptView, after_coming_in}
 use Rattle.task_frames.specs.Frames.{FrameView, TaskView}
 use Rattle.task_frames.specs.Records.{HasNoLiveChild, IsLiveChild, as_given, come_at, live_at}
-use Rattle.task_frames.specs.Resumes.{MayStep, AreOfPlan, EndsOf, HasCounted, HasCountedAtCore, HasLent, HasNoChildAtCore, HaveCome, IsAnswered, IsNewChildOf, IsGivenAs, IsGivenBy, IsLast, IsLiveBefore, IsNextNumber, IsOneOn, IsResumed, IsShown, IsStep, OnGoneOn, OthersKept, OthersKeptAtEnd, OthersStay, OthersStayAtEnd, waited_for}
+use Rattle.task_frames.specs.Resumes.{MayStep, AreOfPlan, EndsOf, HasCounted, HasCountedAtCore, HasLent, HasNoChildAtCore, HaveCome, IsAnswered, IsNewChildOf, IsGivenAs, IsGivenBy, IsLast, IsLiveBefore, IsNextNumber, IsOneOn, IsResumed, IsShown, IsStep, OnGoneOn, OthersKept, OthersKeptAtEnd, OthersStay, OthersStayAtEnd, WaitsForEarlier, waited_for}
 use Rattle.task_frames.proofs.Given.{given-stays, has-stays}
 use Rattle.task_frames.proofs.Lives.{child-came, child-comes, come-only}
 
@@ -294,6 +294,23 @@ gone-on Q G of before after given task its (resumed.Waits frame waited) so answe
 gone-on Q G of before after given task its (resumed.Ended steps) so answered = tt
 gone-on Q G of before after given task its (resumed.Strange frame foreign) so answered = tt
 gone-on Q G of before after given task its resumed.NoMemory so answered = tt
+
+-- a wait is for a frame that comes before
+pub waits-earlier : {B L E : Type 0} (Q : Type 0) (G : Ghosts B L) (of : EndsOf E) (before after given : KeptView) (core : CoreView B L) (task : TaskView B L) (its : Step B L) (answer : Resumed B Q L E)
+    → core.kept ≡ Some given → IsStep G before after task its → IsAnswered of after given its answer → WaitsForEarlier core answer
+waits-earlier {B} {L} Q G of before after given core task (step.Waits same wait_for) (resumed.Waits it waited) keeps so answered = λ x is.
+    let live : after.live ≡ x.live = ap (λ (k : KeptView). k.live) (sym answered.2.after_is) ∙ ap (λ (k : KeptView). k.live) (same_Some given x (sym keeps ∙ is)) in
+    let path : task.path ≡ it.task.path = sym (ap (λ (t : TaskView B L). t.path) so.2) ∙ ap (λ (t : TaskView B L). t.path) (sym answered.1.task) in
+    subst (λ fs. IsLiveBefore fs it.task.path (waited_for waited.wait)) live
+    (subst (λ w. IsLiveBefore after.live it.task.path (waited_for w)) (sym answered.0) (subst (λ q. IsLiveBefore after.live q (waited_for wait_for)) path so.4))
+waits-earlier Q G of before after given core task (step.Runs next) (resumed.Waits it waited) keeps so answered = absurd answered
+waits-earlier Q G of before after given core task (step.Spawned parent new) (resumed.Waits it waited) keeps so answered = absurd answered
+waits-earlier Q G of before after given core task step.Ended (resumed.Waits it waited) keeps so answered = absurd answered
+waits-earlier Q G of before after given core task its (resumed.Runs frame steps) keeps so answered = tt
+waits-earlier Q G of before after given core task its (resumed.Spawned frame spawned steps) keeps so answered = tt
+waits-earlier Q G of before after given core task its (resumed.Ended steps) keeps so answered = tt
+waits-earlier Q G of before after given core task its (resumed.Strange frame foreign) keeps so answered = tt
+waits-earlier Q G of before after given core task its resumed.NoMemory keeps so answered = tt
 
 -- what a step leaves is still kept for the plan
 pub step-core : {B L : Type 0} (G : Ghosts B L) (before after : KeptView) (task : TaskView B L) (its : Step B L) → IsStep G before after task its → IsCore G task.plan after

@@ -307,6 +307,11 @@ module _ {B Q L E : Type 0} (G : Ghosts B L) (of : EndsOf E) (before after : Cor
       × ForSome before.kept (λ kept. ¬ IsGiven kept frame.task (of.ends frame.ends))
   IsResumed resumed.NoMemory = (after ≡ record before { kept = None })
 
+-- Where a frame waits, the one that the wait names is live in the core, and earlier in serial order.
+abbrev pub WaitsForEarlier : {B Q L E : Type 0} → CoreView B L → Resumed B Q L E → Type 0
+WaitsForEarlier core (resumed.Waits same waited) = ForSome core.kept (λ kept. IsLiveBefore kept.live same.task.path (waited_for waited.wait))
+WaitsForEarlier core _ = Unit {0}
+
 -- what holds where a step was taken, or has to wait
 abbrev pub OnTried : {B Q L E : Type 0} → Resumed B Q L E → Type 0 → Type 0
 OnTried (resumed.Strange same foreign) Holds = Unit {0}
