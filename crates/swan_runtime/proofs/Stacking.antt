@@ -9,8 +9,8 @@ use Rattle.swan_model.proofs.PathOrder.{not_before-under}
 use Rattle.task_frames.specs.Cores.{CoreView, KeptView}
 use Rattle.task_frames.specs.Frames.{FrameView}
 use Rattle.task_frames.specs.Records.{LiveFrame, live_at}
-use Rattle.task_frames.specs.Resumes.{EndsOf, HasNone, IsGivenBy, OthersKept}
-use Rattle.task_frames.proofs.AsGiven.{WasGiven, was-given}
+use Rattle.task_frames.specs.Resumes.{EndsOf, HasNone, IsGivenBy}
+use Rattle.task_frames.proofs.AsGiven.{OthersKeptAsGiven, WasGiven, was-given}
 use Rattle.swan_runtime.specs.Stacks.{AreStacked, IsAbove, IsOn, IsStack}
 use Rattle.swan_model.proofs.Paths.{not_below-itself}
 
@@ -45,7 +45,7 @@ module _ {B L E : Type 0} (of : EndsOf E) where
 
   module _ (core after : CoreView B L) where
     -- a frame that a call left alone is as the core gave it last
-    pub still-given : (IsOther : ℕ → Type 0) → OthersKept core after IsOther → (now : KeptView) → after.kept ≡ Some now → after.plan ≡ core.plan → after.run ≡ core.run
+    pub still-given : (IsOther : ℕ → Type 0) → OthersKeptAsGiven core after IsOther → (now : KeptView) → after.kept ≡ Some now → after.plan ≡ core.plan → after.run ≡ core.run
         → (a : FrameView B L E) → IsGivenBy of core a → IsOther a.task.number → IsGivenBy of after a
     still-given IsOther stay now keeps plan run a given other =
         let others = stay given.kept given.keeps now keeps in
@@ -138,23 +138,23 @@ module _ {B L E : Type 0} (of : EndsOf E) where
   module _ (core after : CoreView B L) (stack : List (FrameView B L E)) (top : FrameView B L E) (is : IsStack of core (stack ++ top ∷ []))
       (plan : after.plan ≡ core.plan) (run : after.run ≡ core.run) (now : KeptView) (keeps : after.kept ≡ Some now) where
     -- those below the top, after a call that left them alone
-    below-after : (IsOther : ℕ → Type 0) → OthersKept core after IsOther → ((index : ℕ) (a : FrameView B L E) → slice_get stack index ≡ Some a → IsOther a.task.number)
+    below-after : (IsOther : ℕ → Type 0) → OthersKeptAsGiven core after IsOther → ((index : ℕ) (a : FrameView B L E) → slice_get stack index ≡ Some a → IsOther a.task.number)
         → AreStacked of after stack
     below-after IsOther stay others = record {
       given = λ index a stands. still-given core after IsOther stay now keeps plan run a (below-given core stack top is.stacked index a stands) (others index a stands);
       nested = below-nested core stack top is.stacked;
     }
 
-    others-were : (IsOther : ℕ → Type 0) → OthersKept core after IsOther → (number : ℕ) → IsOther number → (live : LiveFrame) → live_at now.live number ≡ Some live → WasGiven is.kept.live number live
+    others-were : (IsOther : ℕ → Type 0) → OthersKeptAsGiven core after IsOther → (number : ℕ) → IsOther number → (live : LiveFrame) → live_at now.live number ≡ Some live → WasGiven is.kept.live number live
     others-were IsOther stay number other live stands = was-given is.kept.live now.live number live ((stay is.kept is.keeps now keeps).live number other) stands
 
     -- so it is a frame of the stack
-    others-on : (IsOther : ℕ → Type 0) → OthersKept core after IsOther → (number : ℕ) → IsOther number → (live : LiveFrame) → live_at now.live number ≡ Some live → IsOn (stack ++ top ∷ []) number
+    others-on : (IsOther : ℕ → Type 0) → OthersKeptAsGiven core after IsOther → (number : ℕ) → IsOther number → (live : LiveFrame) → live_at now.live number ≡ Some live → IsOn (stack ++ top ∷ []) number
     others-on IsOther stay number other live stands = let before = others-were IsOther stay number other live stands in is.all number before.was before.live
 
     -- it goes on
     pub after-runs : (next : FrameView B L E) → next.task.number ≡ top.task.number → next.task.path ≡ top.task.path → IsGivenBy of after next
-        → OthersKept core after (λ other. other ≢ top.task.number) → IsStack of after (stack ++ next ∷ [])
+        → OthersKeptAsGiven core after (λ other. other ≢ top.task.number) → IsStack of after (stack ++ next ∷ [])
     after-runs next number path given stay = record {
       kept = now;
       keeps = keeps;
@@ -171,7 +171,7 @@ module _ {B L E : Type 0} (of : EndsOf E) where
     }
 
     -- it has ended
-    pub after-ends : HasNone after top.task.number → OthersKept core after (λ other. other ≢ top.task.number) → IsStack of after stack
+    pub after-ends : HasNone after top.task.number → OthersKeptAsGiven core after (λ other. other ≢ top.task.number) → IsStack of after stack
     after-ends none stay = record {
       kept = now;
       keeps = keeps;
@@ -184,7 +184,7 @@ module _ {B L E : Type 0} (of : EndsOf E) where
     -- it has spawned a child
     pub after-spawns : (parent child : FrameView B L E) → parent.task.number ≡ top.task.number → parent.task.path ≡ top.task.path → IsGivenBy of after parent
         → (index : ℕ) → child.task.path ≡ top.task.path ++ index ∷ [] → IsGivenBy of after child → HasNone core child.task.number
-        → OthersKept core after (λ other. (other ≢ top.task.number) × (other ≢ child.task.number)) → IsStack of after ((stack ++ parent ∷ []) ++ child ∷ [])
+        → OthersKeptAsGiven core after (λ other. (other ≢ top.task.number) × (other ≢ child.task.number)) → IsStack of after ((stack ++ parent ∷ []) ++ child ∷ [])
     after-spawns parent child number path given index child-path begins none stay =
         let IsOther : ℕ → Type 0 = λ other. (other ≢ top.task.number) × (other ≢ child.task.number) in
         let known : (i : ℕ) (a : FrameView B L E) → slice_get stack i ≡ Some a → IsOther a.task.number = λ i a stands. (
@@ -224,7 +224,7 @@ module _ {B L E : Type 0} (of : EndsOf E) where
         }
 
     -- a live frame doesn't come before the top
-    pub none-before : (number : ℕ) (live : LiveFrame) → live_at now.live number ≡ Some live → OthersKept core after (λ other. other ≢ top.task.number)
+    pub none-before : (number : ℕ) (live : LiveFrame) → live_at now.live number ≡ Some live → OthersKeptAsGiven core after (λ other. other ≢ top.task.number)
         → (same : FrameView B L E) → IsGivenBy of after same → same.task.number ≡ top.task.number → same.task.path ≡ top.task.path
         → comes_before live.path top.task.path ≡ true → ⊥
     none-before number live stands stay same given own path before = elim (cases_Bool (nat_eq number top.task.number)) [

@@ -16,8 +16,9 @@ use Rattle.task_frames.specs.Cores.{CoreView, IsCoreView, IsGiven, IsOf, KeptVie
 use Rattle.task_frames.specs.Frames.{FrameView, TaskView}
 use Rattle.task_frames.specs.Going.{Counts, IsSameFrame}
 use Rattle.task_frames.specs.Records.{live_at}
-use Rattle.task_frames.specs.Resumes.{EndsOf, HasNone, IsNewChildOf, IsGivenBy, IsOneOn, IsShownBy, OthersKept, deed_now, waited_for}
+use Rattle.task_frames.specs.Resumes.{EndsOf, HasNone, IsNewChildOf, IsGivenBy, IsOneOn, IsShownBy, OthersKept, OthersKeptAtEnd, deed_now, waited_for}
 use Rattle.task_frames.specs.Resumes.{IsOpened}
+use Rattle.task_frames.proofs.AsGiven.{OthersKeptAsGiven, ended-given, kept-given}
 use Rattle.swan_runtime.specs.Stacks.{IsStack, fuel_of, turns_left}
 use Rattle.swan_runtime.proofs.Fuel.{later-less, spawned-less}
 use Rattle.swan_runtime.proofs.Spending.{HasFuel, left-more}
@@ -98,8 +99,8 @@ module _ {B L E : Type 0} (G : Ghosts B L) (name : E → Option Script) (run : E
     never-strange strange = strange given.kept given.keeps (record { of = moved-of; lent = moved-lent })
 
     module _ (after : CoreView B L) (plan : after.plan ≡ core.plan) (run-is : after.run ≡ core.run) (stay : OthersKept core after (λ other. other ≢ moved.task.number)) where
-      stay-top : OthersKept core after (λ other. other ≢ top.task.number)
-      stay-top = subst (λ n. OthersKept core after (λ other. other ≢ n)) number stay
+      stay-top : OthersKeptAsGiven core after (λ other. other ≢ top.task.number)
+      stay-top = subst (λ n. OthersKeptAsGiven core after (λ other. other ≢ n)) number (kept-given core after (λ other. other ≢ moved.task.number) stay)
 
       -- and doesn't wait
       pub never-waits : (next : FrameView B L E) (wait_for : WaitFor) → IsGivenBy of after next
@@ -124,12 +125,13 @@ module _ {B L E : Type 0} (G : Ghosts B L) (name : E → Option Script) (run : E
         after-spawns of core after stack top is plan run-is gives.kept gives.keeps parent child
         (ap (λ (t : TaskView B L). t.number) one-on ∙ number) (ap (λ (t : TaskView B L). t.path) one-on ∙ path) gives
         moved.task.children (made.path ∙ ap (λ p. p ++ moved.task.children ∷ []) path) begins none
-        (subst (λ n. OthersKept core after (λ other. (other ≢ n) × (other ≢ child.task.number))) number stay)
+        (subst (λ n. OthersKeptAsGiven core after (λ other. (other ≢ n) × (other ≢ child.task.number))) number
+        (kept-given core after (λ other. (other ≢ moved.task.number) × (other ≢ child.task.number)) stay))
 
     pub stack-ends : (after : CoreView B L) → after.plan ≡ core.plan → after.run ≡ core.run → (now : KeptView) → after.kept ≡ Some now → HasNone after moved.task.number
-        → OthersKept core after (λ other. other ≢ moved.task.number) → IsStack of after stack
+        → OthersKeptAtEnd core after moved.task.number → IsStack of after stack
     stack-ends after plan run-is now keeps none stay =
-        after-ends of core after stack top is plan run-is now keeps (subst (HasNone after) number none) (subst (λ n. OthersKept core after (λ other. other ≢ n)) number stay)
+        after-ends of core after stack top is plan run-is now keeps (subst (HasNone after) number none) (subst (λ n. OthersKeptAsGiven core after (λ other. other ≢ n)) number (ended-given core after moved.task.number stay))
 
   -- ---- what it costs
 

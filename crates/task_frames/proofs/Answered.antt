@@ -16,22 +16,27 @@ use Rattle.task_frames.specs.declared.steps.Steps.{Steps}
 use Rattle.task_frames.specs.Cores.{MayBegin, FrameAtCoreView, CoreView, HasIt, IsCore, KeptView, after_coming_in}
 use Rattle.task_frames.specs.Frames.{FrameView, TaskView}
 use Rattle.task_frames.specs.Records.{HasNoLiveChild, IsLiveChild, as_given, come_at, live_at}
-use Rattle.task_frames.specs.Resumes.{MayStep, AreOfPlan, EndsOf, HasLent, HasNoChildAtCore, HaveCome, IsAnswered, IsNewChildOf, IsGivenAs, IsGivenBy, IsLast, IsLiveBefore, IsOneOn, IsResumed, IsShown, IsStep, OnGoneOn, OthersKept, OthersStay, waited_for}
-use Rattle.task_frames.proofs.AsGiven.{none-given}
+use Rattle.task_frames.specs.Resumes.{MayStep, AreOfPlan, EndsOf, HasCounted, HasCountedAtCore, HasLent, HasNoChildAtCore, HaveCome, IsAnswered, IsNewChildOf, IsGivenAs, IsGivenBy, IsLast, IsLiveBefore, IsNextNumber, IsOneOn, IsResumed, IsShown, IsStep, OnGoneOn, OthersKept, OthersKeptAtEnd, OthersStay, OthersStayAtEnd, WaitsForEarlier, waited_for}
 use Rattle.task_frames.proofs.Given.{given-stays, has-stays}
-use Rattle.task_frames.proofs.Lives.{child-comes, come-only}
+use Rattle.task_frames.proofs.Lives.{child-came, child-comes, come-only}
 
 -- ---- frames that are given one after the other
 
 pub lent-others : (before after : KeptView) (n : ℕ) → HasLent before after n → OthersStay before after (λ other. other ≢ n)
 lent-others before after n lent = record {
-  live = λ other differs. ap (λ (k : KeptView). option_map as_given (live_at k.live other)) lent.after_is;
+  live = λ other differs. ap (λ (k : KeptView). live_at k.live other) lent.after_is;
   active_are = λ other differs. ap (λ (k : KeptView). active k.state other) lent.after_is
       ∙ (one_goes_on before.state n lent.own (λ x. record x { lent = Some (record { deeds = lent.own.deeds; ends = lent.list }) }) (λ x. refl) lent.active_is).others other differs;
 }
 
 pub lent-run : (before after : KeptView) (n : ℕ) → HasLent before after n → after.run ≡ before.run
 lent-run before after n lent = ap (λ (k : KeptView). k.run) lent.after_is
+
+pub lent-count : (before after : KeptView) (n : ℕ) → HasLent before after n → HasCounted before after 0
+lent-count before after n lent = let same : after.frames ≡ before.frames = ap (λ (k : KeptView). k.frames) lent.after_is in omega (arith, same)
+
+then-count : (a b c : KeptView) → HasCounted a b 0 → HasCounted b c 0 → HasCounted a c 0
+then-count a b c first then = omega (arith, first, then)
 
 then-stay : (a b c : KeptView) (IsOther : ℕ → Type 0) → OthersStay a b IsOther → OthersStay b c IsOther → OthersStay a c IsOther
 then-stay a b c IsOther first then = record {
@@ -71,12 +76,14 @@ module _ {B L : Type 0} (G : Ghosts B L) (before middle : KeptView) (plan : Plan
             (lent-others before middle parent.task.number lent))
             (fewer-stay middle after (λ other. other ≢ child.task.number) (λ other. (other ≢ parent.task.number) × (other ≢ child.task.number)) (λ n both_apart. both_apart.1)
             (lent-others middle after child.task.number then)),
+        then-count before middle after (lent-count before middle parent.task.number lent) (lent-count middle after child.task.number then),
       )
 
 pub runs-answered : {B L E : Type 0} (Q : Type 0) (of : EndsOf E) (before after : KeptView) (its : Step B L) (next : FrameAtCoreView B L) (frame : FrameView B L E) (steps : Steps) → its ≡ step.Runs next → steps.count ≡ 1
     → IsGivenAs of after next frame → HasLent before after next.task.number → IsAnswered {Q = Q} of before after its (resumed.Runs frame steps)
 runs-answered Q of before after its next frame steps is one given lent =
-    subst (λ x. IsAnswered {Q = Q} of before after x (resumed.Runs frame steps)) (sym is) (one, given, lent-others before after next.task.number lent)
+    subst (λ x. IsAnswered {Q = Q} of before after x (resumed.Runs frame steps)) (sym is)
+    (one, given, lent-others before after next.task.number lent, lent-count before after next.task.number lent)
 
 -- ---- a frame that is resumed
 
@@ -97,6 +104,27 @@ module _ {B L E : Type 0} (G : Ghosts B L) (of : EndsOf E) (before after : CoreV
   kept-others IsOther stay = λ x is y its.
       subst (λ k. OthersStay k y IsOther) (same_Some start x (sym start_is ∙ is)) (subst (λ k. OthersStay start k IsOther) (same_Some given y (sym given_is ∙ its)) stay)
 
+  -- how many frames there were
+  frames-taken : taken.frames ≡ start.frames
+  frames-taken = ap (λ (k : KeptView). k.frames) come
+
+  counted-on : (more : ℕ) → HasCounted taken stepped more → HasCounted stepped given 0 → HasCountedAtCore before after more
+  counted-on more goes stays = λ x is y its.
+      let first : start.frames ≡ x.frames = ap (λ (k : KeptView). k.frames) (same_Some start x (sym start_is ∙ is)) in
+      let last : given.frames ≡ y.frames = ap (λ (k : KeptView). k.frames) (same_Some given y (sym given_is ∙ its)) in
+      omega (arith, first, last, frames-taken, goes, stays)
+
+  next-number : (number : ℕ) → number ≡ taken.frames → IsNextNumber before number
+  next-number number is = λ x kept_is. is ∙ frames-taken ∙ ap (λ (k : KeptView). k.frames) (same_Some start x (sym start_is ∙ kept_is))
+
+  -- where nothing was changed
+  counted-same : (a b : KeptView) → b ≡ a → HasCounted a b 0
+  counted-same a b same = let frames : b.frames ≡ a.frames = ap (λ (k : KeptView). k.frames) same in omega (arith, frames)
+
+  kept-at-end : OthersStayAtEnd start given n → OthersKeptAtEnd before after n
+  kept-at-end stay = λ x is y its.
+      subst (λ k. OthersStayAtEnd k y n) (same_Some start x (sym start_is ∙ is)) (subst (λ k. OthersStayAtEnd start k n) (same_Some given y (sym given_is ∙ its)) stay)
+
   given-by : (next : FrameAtCoreView B L) (it : FrameView B L E) → next.task.plan ≡ frame.task.plan → IsGivenAs of given next it → IsGivenBy of after it
   given-by next it same so = record {
     kept = given;
@@ -111,6 +139,25 @@ module _ {B L E : Type 0} (G : Ghosts B L) (of : EndsOf E) (before after : CoreV
   from-start : (IsOther : ℕ → Type 0) → ((m : ℕ) → IsOther m → m ≢ n) → OthersStay taken stepped IsOther → OthersStay stepped given IsOther → OthersStay start given IsOther
   from-start IsOther apart second third =
       then-stay start taken given IsOther (fewer-stay start taken (λ other. other ≢ n) IsOther apart others) (then-stay taken stepped given IsOther second third)
+
+  -- who is its parent once the frame has come in was so before
+  was-child : (other : ℕ) → IsLiveChild taken.live other n → IsLiveChild start.live other n
+  was-child other child =
+      let frame-then = live_at start.live n in
+      child-came start.live (come_at start.live n frame.task.done frame-then) n frame.task.done other n (come-only start.live _ n frame.task.done frame-then refl refl)
+      (subst (λ (k : KeptView). IsLiveChild k.live other n) come child)
+
+  end-from-start : OthersStayAtEnd taken stepped n → OthersStayAtEnd start stepped n
+  end-from-start stay = (
+    record {
+      live = λ other differs. stay.0.live other differs ∙ ap (option_map as_given) (others.live other differs);
+      active_are = λ other differs. stay.0.active_are other differs ∙ others.active_are other differs;
+    },
+    record {
+      live = λ other apart. stay.1.live other (apart.0, λ child. apart.1 (was-child other child)) ∙ others.live other apart.0;
+      active_are = λ other apart. stay.1.active_are other (apart.0, λ child. apart.1 (was-child other child)) ∙ others.active_are other apart.0;
+    },
+  )
 
   -- who has no child once the frame has come in had none before
   no-child : HasNoLiveChild taken.live n → HasNoChildAtCore before n
@@ -139,6 +186,7 @@ module _ {B L E : Type 0} (G : Ghosts B L) (of : EndsOf E) (before after : CoreV
             (fewer-stay stepped given (λ other. other ≢ next.task.number) (λ other. other ≢ n) (λ m apart same. apart (same ∙ own)) answered.2)),
         (λ sync. no-child (so.4 sync)),
         may-step so.5,
+        counted-on 0 so.6 answered.3,
       )
     where
       same-rest : (a : FrameAtCoreView B L) (b : FrameView B L E) → b.task ≡ a.task
@@ -156,11 +204,13 @@ module _ {B L E : Type 0} (G : Ghosts B L) (of : EndsOf E) (before after : CoreV
         subst (IsNewChildOf frame.task) (sym answered.2.task) (record { plan = so.3.plan; path = so.3.path; done = so.3.done; other = so.3.other }),
         so.4,
         (λ x is. subst (λ (k : KeptView). live_at k.live child.task.number ≡ None) (same_Some start x (sym start_is ∙ is))
-            (none-given start.live taken.live child.task.number (others.live child.task.number (λ same. so.3.other (sym child_own ∙ same))) (ap (live_at taken.live) child_own ∙ so.5))),
+            (sym (others.live child.task.number (λ same. so.3.other (sym child_own ∙ same))) ∙ ap (live_at taken.live) child_own ∙ so.5)),
         kept-others IsOther (from-start IsOther (λ m apart. apart.0)
             (fewer-stay taken stepped (λ other. (other ≢ n) × (other ≢ new.task.number)) IsOther (λ m apart. (apart.0, λ same. apart.1 (same ∙ sym child_own))) so.6)
             (fewer-stay stepped given (λ other. (other ≢ parent.task.number) × (other ≢ new.task.number)) IsOther (λ m apart. (λ same. apart.0 (same ∙ own), λ same. apart.1 (same ∙ sym child_own))) answered.3)),
         may-step so.7,
+        next-number child.task.number (child_own ∙ so.8),
+        counted-on 1 so.9 answered.4,
       )
   resumed-cases Q (step.Waits same wait_for) (resumed.Waits it waited) so answered =
       let its_so = answered.1 in
@@ -184,6 +234,7 @@ module _ {B L E : Type 0} (G : Ghosts B L) (of : EndsOf E) (before after : CoreV
         },
         kept-others (λ other. other ≢ n) (from-start (λ other. other ≢ n) (λ m apart. apart) (subst (λ k. OthersStay taken k (λ other. other ≢ n)) (sym so.1) (all-stay taken (λ other. other ≢ n)))
             (fewer-stay stepped given (λ other. other ≢ same.task.number) (λ other. other ≢ n) (λ m apart eq. apart (eq ∙ own)) (lent-others stepped given same.task.number answered.2))),
+        counted-on 0 (counted-same taken stepped so.1) (lent-count stepped given same.task.number answered.2),
       )
   resumed-cases Q step.Ended (resumed.Ended steps) so answered = (
     answered.0,
@@ -191,9 +242,10 @@ module _ {B L E : Type 0} (G : Ghosts B L) (of : EndsOf E) (before after : CoreV
     so.1,
     so.2,
     (λ x is. subst (λ (k : KeptView). live_at k.live n ≡ None) (same_Some given x (sym given_is ∙ is)) (subst (λ (k : KeptView). live_at k.live n ≡ None) (sym answered.1) so.3)),
-    kept-others (λ other. other ≢ n) (from-start (λ other. other ≢ n) (λ m apart. apart) so.4 (subst (λ k. OthersStay stepped k (λ other. other ≢ n)) (sym answered.1) (all-stay stepped (λ other. other ≢ n)))),
+    kept-at-end (subst (λ k. OthersStayAtEnd start k n) (sym answered.1) (end-from-start so.4)),
     no-child so.5,
     may-step so.6,
+    counted-on 0 so.7 (counted-same stepped given answered.1),
   )
   resumed-cases Q (step.Runs next) (resumed.Spawned it child steps) so answered = absurd answered
   resumed-cases Q (step.Runs next) (resumed.Waits it waited) so answered = absurd answered
@@ -242,6 +294,23 @@ gone-on Q G of before after given task its (resumed.Waits frame waited) so answe
 gone-on Q G of before after given task its (resumed.Ended steps) so answered = tt
 gone-on Q G of before after given task its (resumed.Strange frame foreign) so answered = tt
 gone-on Q G of before after given task its resumed.NoMemory so answered = tt
+
+-- a wait is for a frame that comes before
+pub waits-earlier : {B L E : Type 0} (Q : Type 0) (G : Ghosts B L) (of : EndsOf E) (before after given : KeptView) (core : CoreView B L) (task : TaskView B L) (its : Step B L) (answer : Resumed B Q L E)
+    → core.kept ≡ Some given → IsStep G before after task its → IsAnswered of after given its answer → WaitsForEarlier core answer
+waits-earlier {B} {L} Q G of before after given core task (step.Waits same wait_for) (resumed.Waits it waited) keeps so answered = λ x is.
+    let live : after.live ≡ x.live = ap (λ (k : KeptView). k.live) (sym answered.2.after_is) ∙ ap (λ (k : KeptView). k.live) (same_Some given x (sym keeps ∙ is)) in
+    let path : task.path ≡ it.task.path = sym (ap (λ (t : TaskView B L). t.path) so.2) ∙ ap (λ (t : TaskView B L). t.path) (sym answered.1.task) in
+    subst (λ fs. IsLiveBefore fs it.task.path (waited_for waited.wait)) live
+    (subst (λ w. IsLiveBefore after.live it.task.path (waited_for w)) (sym answered.0) (subst (λ q. IsLiveBefore after.live q (waited_for wait_for)) path so.4))
+waits-earlier Q G of before after given core task (step.Runs next) (resumed.Waits it waited) keeps so answered = absurd answered
+waits-earlier Q G of before after given core task (step.Spawned parent new) (resumed.Waits it waited) keeps so answered = absurd answered
+waits-earlier Q G of before after given core task step.Ended (resumed.Waits it waited) keeps so answered = absurd answered
+waits-earlier Q G of before after given core task its (resumed.Runs frame steps) keeps so answered = tt
+waits-earlier Q G of before after given core task its (resumed.Spawned frame spawned steps) keeps so answered = tt
+waits-earlier Q G of before after given core task its (resumed.Ended steps) keeps so answered = tt
+waits-earlier Q G of before after given core task its (resumed.Strange frame foreign) keeps so answered = tt
+waits-earlier Q G of before after given core task its resumed.NoMemory keeps so answered = tt
 
 -- what a step leaves is still kept for the plan
 pub step-core : {B L : Type 0} (G : Ghosts B L) (before after : KeptView) (task : TaskView B L) (its : Step B L) → IsStep G before after task its → IsCore G task.plan after

@@ -2,8 +2,10 @@
 use Rattle.std.proofs.Common.{◌≡◌, ◌≢◌, inl, inr, ℕ, Option, None, Some, IsSome, refl, sym, ap, ◌∙◌}
 use Rattle.std.proofs.lemmas.Bool.{cases_eq}
 use Rattle.std.proofs.lemmas.Option.{same_Some}
-use Rattle.std.specs.Option.{option_map}
+use Rattle.std.specs.Option.{ForSome, option_map}
+use Rattle.task_frames.specs.Cores.{CoreView}
 use Rattle.task_frames.specs.Records.{AreGivenSo, HasOneFailed, IsOnlyLive, LiveFrame, NumberedFrames, as_given, live_at, with_failed_child}
+use Rattle.task_frames.specs.Resumes.{OthersKept, OthersKeptAtEnd, OthersStayAsGiven}
 
 -- the frame that one of them was before
 pub record WasGiven (before : NumberedFrames) (number : ℕ) (frame : LiveFrame) : Type 0 where
@@ -39,6 +41,11 @@ one-failed-given before after (Some parent) only = λ number. elim (cases_eq num
     by None = refl
     by (Some frame) = refl
 
+-- and all but the one above are as before
+pub one-failed-others : (before after : NumberedFrames) (parent : Option ℕ) → HasOneFailed before after parent → (other : ℕ) → parent ≢ Some other → live_at after other ≡ live_at before other
+one-failed-others before after None is other differs = ap (λ fs. live_at fs other) is
+one-failed-others before after (Some parent) only other differs = only.others other (λ same. differs (ap Some (sym same)))
+
 -- where one frame is changed, each other one is given as before
 pub others-given : (before after : NumberedFrames) (number : ℕ) (frame : Option LiveFrame) → IsOnlyLive before after number frame → (other : ℕ) → other ≢ number
     → option_map as_given (live_at after other) ≡ option_map as_given (live_at before other)
@@ -51,3 +58,18 @@ some-given before after number same there = by (live_at after number) (live_at b
   by (Some frame) was is some = refl
   by None None is some = some
   by None (Some frame) is some = absurd (cc)
+
+-- ---- frames that a step left alone
+
+-- they are in the record as they were given
+abbrev pub OthersKeptAsGiven : {B L : Type 0} → (before after : CoreView B L) → (ℕ → Type 0) → Type 0
+OthersKeptAsGiven before after IsOther = ForSome before.kept (λ kept. ForSome after.kept (λ now. OthersStayAsGiven kept now IsOther))
+
+pub kept-given : {B L : Type 0} (before after : CoreView B L) (IsOther : ℕ → Type 0) → OthersKept before after IsOther → OthersKeptAsGiven before after IsOther
+kept-given before after IsOther stay = λ kept is now its.
+    let others = stay kept is now its in
+    record { live = λ other is_other. ap (option_map as_given) (others.live other is_other); active_are = others.active_are }
+
+-- and so they are where one has ended
+pub ended-given : {B L : Type 0} (before after : CoreView B L) (number : ℕ) → OthersKeptAtEnd before after number → OthersKeptAsGiven before after (λ other. other ≢ number)
+ended-given before after number stay = λ kept is now its. (stay kept is now its).0

@@ -42,7 +42,6 @@ use Rattle.task_frames.specs.Cores.{FrameAtCoreView, HasIt, IsAtCore, IsCore, Ke
 use Rattle.task_frames.specs.Records.{IsOnlyLive, NumberedFrames, come_to, holding_too, live_at}
 use Rattle.task_frames.specs.Resumes.{IsStep}
 use Rattle.task_frames.proofs.AtQueues.{a, a-back, a-live, asked, done-now, for-next, law, may-do, told}
-use Rattle.task_frames.proofs.AsGiven.{others-given}
 use Rattle.task_frames.proofs.Booked as booked
 use Rattle.task_frames.proofs.Counted as counted
 use Rattle.task_frames.proofs.Failing.{still-one}
@@ -159,7 +158,7 @@ module _ {B L : Type 0} (G : Ghosts B L) (kept : KeptView) (mid : Mid B L) (asks
     }
 
     module _ (after : KeptView) (only : IsOnlyLive kept.live after.live mid.task.number (Some (record has.of.frame { done = mid.task.done + 1; holdings = has.of.frame.holdings ++ h ∷ [] })))
-        (core : IsCore G mid.task.plan after) (b : ActiveFrame) (changed : IsOnlyFrame kept.state after.state mid.task.number (Some b)) (back : b.lent ≡ None) (no_spawn : is_spawn does ≡ false) (no_wait : does ≢ deed.Sync) (begun : MayBegin kept mid.task.number) where
+        (core : IsCore G mid.task.plan after) (b : ActiveFrame) (changed : IsOnlyFrame kept.state after.state mid.task.number (Some b)) (back : b.lent ≡ None) (no_spawn : is_spawn does ≡ false) (no_wait : does ≢ deed.Sync) (begun : MayBegin kept mid.task.number) (count : after.frames ≡ kept.frames) where
       has-next : HasIt G after more
       has-next = record {
         core = core;
@@ -175,7 +174,15 @@ module _ {B L : Type 0} (G : Ghosts B L) (kept : KeptView) (mid : Mid B L) (asks
       }
 
       pub places : IsStep G kept after mid.task (step.Runs more)
-      places = (has-next, refl, ap is_spawn gets.deed ∙ no_spawn, record { live = others-given kept.live after.live mid.task.number _ only; active_are = changed.others }, λ is. absurd (no_wait (sym gets.deed ∙ is)), begun)
+      places = (
+        has-next,
+        refl,
+        ap is_spawn gets.deed ∙ no_spawn,
+        record { live = only.others; active_are = changed.others },
+        λ is. absurd (no_wait (sym gets.deed ∙ is)),
+        begun,
+        omega (arith, count),
+      )
 
   -- the record, by what stood in it
   pub held-more : (then_live : NumberedFrames) (h : Holding) → IsOnlyLive kept.live then_live mid.task.number (option_map (come_to (mid.task.done + 1)) (option_map (holding_too h) (live_at kept.live mid.task.number)))
@@ -254,7 +261,7 @@ module _ {B L : Type 0} (G : Ghosts B L) (kept : KeptView) (mid : Mid B L) (has 
           let own = a G kept mid ask.NewQueue has in
           places G kept mid ask.NewQueue has PushPop deed.MakeQueue queue-gets (record { mode = PushPop; number = length kept.state.makers }) refl with-one-queue only queue-core
           (with_deed (with_made (length kept.state.makers) own)) (one_goes_on kept.state mid.task.number own (λ x. with_deed (with_made (length kept.state.makers) x)) (λ x. refl) (a-live G kept mid ask.NewQueue has))
-          (a-back G kept mid ask.NewQueue has) refl (λ same. absurd (cc)) begun
+          (a-back G kept mid ask.NewQueue has) refl (λ same. absurd (cc)) begun refl
 
   pub queue-runs : (after : KeptView) (next : FrameAtCoreView B L) (queue : ℕ) (state : QueueState) → queue ≡ length kept.state.makers
       → next ≡ record { task = record (one_on mid.task) { holdings = mid.task.holdings ++ record { mode = PushPop; number = queue } ∷ [] }; stage = Ready mid.local (answer.Place (length mid.task.holdings)) }
@@ -342,7 +349,7 @@ module _ {B L : Type 0} (G : Ghosts B L) (kept : KeptView) (mid : Mid B L) (valu
           let asks = ask.NewObject value in
           let own = a G kept mid asks has in
           places G kept mid asks has InOut (deed.MakeObject value) object-gets (record { mode = InOut; number = kept.objects }) refl with-one-object only object-core
-          own (record { changed = a-live G kept mid asks has; others = λ m other. refl }) (a-back G kept mid asks has) refl (λ same. absurd (cc)) begun
+          own (record { changed = a-live G kept mid asks has; others = λ m other. refl }) (a-back G kept mid asks has) refl (λ same. absurd (cc)) begun refl
 
   pub object-runs : (after : KeptView) (next : FrameAtCoreView B L)
       → next ≡ record { task = record (one_on mid.task) { holdings = mid.task.holdings ++ record { mode = InOut; number = kept.objects } ∷ [] }; stage = Ready mid.local (answer.Place (length mid.task.holdings)) }

@@ -47,7 +47,7 @@ use Rattle.task_frames.specs.Resumes.{AsksOf, IsLast, IsStep}
 use Rattle.task_frames.proofs.Asked.{pop-does, usable, used-so}
 use Rattle.task_frames.proofs.Booked as booked
 use Rattle.task_frames.proofs.AsGiven.{one-failed-given}
-use Rattle.task_frames.proofs.Endings.{counted-fault, ends-so, is-fault}
+use Rattle.task_frames.proofs.Endings.{alike-failed, counted-fault, ends-so, is-fault}
 use Rattle.task_frames.proofs.Firsts.{waits-cause}
 use Rattle.task_frames.proofs.Given.{with-state}
 use Rattle.task_frames.proofs.Goings.{done-is, known, lawful, own}
@@ -326,7 +326,7 @@ module _ {B L : Type 0} (G : Ghosts B L) (kept : KeptView) (mid : Mid B L) (plac
             turns = without kept.turns n;
             faults = kept.faults ++ fault ∷ [];
           })
-          settled between given only refl refl refl refl refl alone
+          settled between given (alike-failed G kept (asking mid (ask.Pop place)) has begun (none-last none) between one) only refl refl refl refl refl alone
           (record { changed = gone.changed; others = λ m other. gone.others m other ∙ popped.others m other })
           (queues.finished-dry s lawful_is r kept.state kept.turns has.core.queues n mid.task.path mid.task.done known_is pop-used.0 then_state (without kept.turns n) popped-deed (none-last none) act dry-join refl refl)
           (live.leaves-dry G mid.task.plan r kept.state between kept.frames (live.as-before G mid.task.plan r kept.state kept.live kept.frames has.core.frames between given) has.core.queues.tree n (a G kept mid (ask.Pop place) has) then_state after.live

@@ -1,5 +1,5 @@
 -- A frame at the core that ends by its next step, or has to wait for its children before it may.
-use Rattle.std.proofs.Common.{◌≡◌, ◌≢◌, inr, ℕ, false, None, [], ◌∷◌, ◌++◌, refl, sym, ap, subst, ◌∙◌}
+use Rattle.std.proofs.Common.{◌≡◌, ◌≢◌, inr, ℕ, false, None, [], ◌∷◌, ◌++◌, refl, sym, ap, subst, ◌∙◌, arith}
 use Rattle.std.specs.Option.{option_map}
 use Rattle.swan_model.specs.declared.body.Body.{Ghosts}
 use Rattle.swan_model.specs.declared.fault.Fault.{Fault}
@@ -20,13 +20,13 @@ use Rattle.queues.specs.Tree.{IsOnlyFrame}
 use Rattle.task_frames.specs.declared.step.Step.TheVariants as step
 use Rattle.task_frames.specs.Cores.{AreBooked, AreCounted, AreFrames, AreObjects, AreQueues, FrameAtCoreView, HasIt, IsCore, KeptView, MayBegin}
 use Rattle.task_frames.specs.Frames.{TaskView}
-use Rattle.task_frames.specs.Records.{AreGivenSo, HasNoLiveChild, HasOneFailed, IsOldestChild, IsOnlyLive, NumberedFrames, as_given, live_at}
+use Rattle.task_frames.specs.Records.{AreGivenSo, HasNoLiveChild, HasOneFailed, IsLiveChild, IsOldestChild, IsOnlyLive, NumberedFrames, as_given, live_at}
 use Rattle.task_frames.specs.Resumes.{IsLast, IsLiveBefore, IsStep, deed_now}
 use Rattle.queues.specs.declared.answers.WaitFor.TheVariants as wait
 use Rattle.queues.proofs.ActiveAfter.{one_gone}
 use Rattle.serial_elision.specs.Caught.{has_failed}
 use Rattle.serial_elision.specs.TaskSteps.{IsFaultOf}
-use Rattle.task_frames.proofs.AsGiven.{WasGiven, one-failed-given, others-given, was-given}
+use Rattle.task_frames.proofs.AsGiven.{WasGiven, one-failed-given, one-failed-others, others-given, was-given}
 use Rattle.task_frames.proofs.Booked as booked
 use Rattle.task_frames.proofs.Counted as counted
 use Rattle.task_frames.proofs.Failing.{never-failed}
@@ -63,7 +63,7 @@ module _ {B L : Type 0} (G : Ghosts B L) (kept : KeptView) (frame : FrameAtCoreV
   module _ (begun : MayBegin kept task.number) (last : IsLast G task) where
     -- it ends by this deed, which no object hears of; its faults are booked
     module _ (does : Deed) (is : deed_now G task ≡ does) (no_object : is_object_deed does ≡ false) (no_spawn : is_spawn does ≡ false) (after : KeptView) (settled : IsSettled kept.versions task.number)
-        (between : NumberedFrames) (given : AreGivenSo kept.live between) (only : IsOnlyLive between after.live task.number None) (name : after.name ≡ kept.name) (reading : after.reading ≡ gone_on_by kept.reading task.number 1) (count : after.frames ≡ kept.frames) (made : after.objects ≡ kept.objects)
+        (between : NumberedFrames) (given : AreGivenSo kept.live between) (alike : (other : ℕ) → ¬ IsLiveChild kept.live other task.number → live_at between other ≡ live_at kept.live other) (only : IsOnlyLive between after.live task.number None) (name : after.name ≡ kept.name) (reading : after.reading ≡ gone_on_by kept.reading task.number 1) (count : after.frames ≡ kept.frames) (made : after.objects ≡ kept.objects)
         (ended : after.versions ≡ objects_after_finish kept.versions task.number) (alone : HasNoLiveChild kept.live task.number) (gone : IsOnlyFrame kept.state after.state task.number None)
         (queues_are : AreQueues s (gone_on_by kept.reading task.number 1) after.state after.turns)
         (frames_are : AreFrames G task.plan (gone_on_by kept.reading task.number 1) after.state after.live kept.frames)
@@ -90,7 +90,19 @@ module _ {B L : Type 0} (G : Ghosts B L) (kept : KeptView) (frame : FrameAtCoreV
       }
 
       pub ends-so : IsStep G kept after task step.Ended
-      ends-so = (core-ended, last, ap is_spawn is ∙ no_spawn, only.changed, record { live = stays; active_are = gone.others }, alone, begun)
+      ends-so = (
+        core-ended,
+        last,
+        ap is_spawn is ∙ no_spawn,
+        only.changed,
+        (
+          record { live = stays; active_are = gone.others },
+          record { live = λ other apart. only.others other apart.0 ∙ alike other apart.1; active_are = λ other apart. gone.others other apart.0 },
+        ),
+        alone,
+        begun,
+        omega (arith, count),
+      )
         where
           stays : (other : ℕ) → other ≢ task.number → option_map as_given (live_at after.live other) ≡ option_map as_given (live_at kept.live other)
           stays other differs = others-given between after.live task.number None only other differs ∙ given other
@@ -112,6 +124,10 @@ module _ {B L : Type 0} (G : Ghosts B L) (kept : KeptView) (frame : FrameAtCoreV
         (λ m i above at own_path.
         waiting.parent-is G task.plan (lawful G kept frame has) kept.reading kept.state kept.turns kept.live kept.frames has.core.queues has.core.frames m above at task.number i has.of.frame has.of.live own_path)
 
+    -- where it fails, all but the frame above are as before
+    pub alike-failed : (between : NumberedFrames) → HasOneFailed kept.live between has.of.frame.parent → (other : ℕ) → ¬ IsLiveChild kept.live other task.number → live_at between other ≡ live_at kept.live other
+    alike-failed between one other none = one-failed-others kept.live between has.of.frame.parent one other (λ is. none (record { frame = has.of.frame; live = has.of.live; of = is }))
+
     module _ (after : KeptView) (settled : IsSettled kept.versions task.number) (may : MayJoin kept.state task.number) where
       -- by the end that it asks for
       pub ends-quietly : IsOnlyLive kept.live after.live task.number None → after ≡ record kept {
@@ -132,7 +148,7 @@ module _ {B L : Type 0} (G : Ghosts B L) (kept : KeptView) (frame : FrameAtCoreV
             live = after.live;
             turns = without kept.turns task.number;
           })
-          settled kept.live (λ m. refl) only refl refl refl refl refl (no-child may) (one_gone kept.state task.number)
+          settled kept.live (λ m. refl) (λ m none. refl) only refl refl refl refl refl (no-child may) (one_gone kept.state task.number)
           (queues.finished s (lawful G kept frame has) kept.reading kept.state kept.turns has.core.queues task.number task.path task.done (known G kept frame has) deed.Quiet
           (after_finish kept.state task.number) (without kept.turns task.number) quiet refl last may refl refl)
           (live.leaves-finish G task.plan kept.reading kept.state kept.live kept.frames has.core.frames has.core.queues.tree task.number (after_finish kept.state task.number) after.live may refl only)
@@ -162,7 +178,7 @@ module _ {B L : Type 0} (G : Ghosts B L) (kept : KeptView) (frame : FrameAtCoreV
             turns = without kept.turns task.number;
             faults = kept.faults ++ fault ∷ [];
           })
-          settled between given only refl refl refl refl refl (no-child may) (one_gone kept.state task.number)
+          settled between given (alike-failed between one) only refl refl refl refl refl (no-child may) (one_gone kept.state task.number)
           (queues.finished s (lawful G kept frame has) kept.reading kept.state kept.turns has.core.queues task.number task.path task.done (known G kept frame has) deed.Quiet
           (after_finish kept.state task.number) (without kept.turns task.number) quiet refl last may refl refl)
           (live.leaves-finish G task.plan kept.reading kept.state between kept.frames (live.as-before G task.plan kept.reading kept.state kept.live kept.frames has.core.frames between given)

@@ -1,8 +1,10 @@
 -- Whom a frame at the core has to wait for, and when it may begin.
-use Rattle.std.proofs.Common.{◌≡◌, ◌⊎◌, inl, inr, ℕ, ◌<◌, false, nat_lt, Some, refl, sym, subst, ◌∙◌, arith}
+use Rattle.std.proofs.Common.{◌≡◌, ◌⊎◌, inl, inr, ℕ, ◌<◌, true, false, nat_lt, Some, refl, sym, subst, ◌∙◌, arith}
 use Rattle.std.proofs.lemmas.Bool.{cases_lt, lt-ltb, false≢true}
 use Rattle.swan_model.specs.declared.body.Body.{Ghosts}
+use Rattle.swan_model.specs.declared.rights.Mode.TheVariants.{In}
 use Rattle.swan_model.specs.QueueState.{ActiveFrame, IsPoppingChild, active}
+use Rattle.swan_model.specs.Rights.{allows}
 use Rattle.swan_model.specs.Versions.{Awaits, Placed, owed, placed_at}
 use Rattle.pop_order.specs.Turns.{Blocks}
 use Rattle.queues.specs.Tells.{IsCause}
@@ -47,8 +49,9 @@ module _ {B L : Type 0} (G : Ghosts B L) (kept : KeptView) (frame : FrameAtCoreV
     ready = ready;
   }
 
-  pub waits-awaited : (done m : ℕ) → done ≡ frame.task.done → nat_lt 0 done ≡ false → (place : ℕ) → Awaits kept.versions frame.task.number place m → WaitsForVersion G kept frame m
-  waits-awaited done m same not_so place awaits = at_first place (sym same ∙ not-less done not_so) awaits
+  pub waits-awaited : (done m : ℕ) → done ≡ frame.task.done → nat_lt 0 done ≡ false → (place : ℕ) (awaits : Awaits kept.versions frame.task.number place m) → allows awaits.object.mode In ≡ true
+      → WaitsForVersion G kept frame m
+  waits-awaited done m same not_so place awaits may = at_first place (sym same ∙ not-less done not_so) awaits may
 
   pub waits-blocked : (done m : ℕ) → done ≡ frame.task.done → nat_lt 0 done ≡ false → WaitsForNone kept.versions frame.task.number → IsFirstToBlock kept.turns frame.task.number m
       → WaitsForTurn G kept frame m

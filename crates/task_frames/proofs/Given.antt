@@ -6,21 +6,12 @@ use Rattle.swan_model.specs.QueueState.{ActiveFrame, QueueState, active}
 use Rattle.queues.specs.Asks.{LentEnds, OnNext}
 use Rattle.task_frames.specs.Cores.{FrameAtCoreView, HasIt, IsCore, IsGiven, IsOf, KeptView}
 use Rattle.task_frames.specs.Frames.{TaskView}
-use Rattle.task_frames.specs.Records.{LiveFrame}
 use Rattle.task_frames.specs.Resumes.{OthersStay}
-use Rattle.task_frames.proofs.AsGiven.{was-given}
 
 module _ {B L : Type 0} (G : Ghosts B L) (before after : KeptView) (IsOther : ℕ → Type 0) (stay : OthersStay before after IsOther) where
   pub of-stays : (task : TaskView B L) → IsOther task.number → IsOf before task → IsOf after task
   of-stays task other of =
-      let now = was-given after.live before.live task.number of.frame (sym (stay.live task.number other)) of.live in
-      record {
-        frame = now.was;
-        live = now.live;
-        path = ap (λ (x : LiveFrame). x.path) now.same ∙ of.path;
-        done = ap (λ (x : LiveFrame). x.done) now.same ∙ of.done;
-        holdings = ap (λ (x : LiveFrame). x.holdings) now.same ∙ of.holdings;
-      }
+      record { frame = of.frame; live = stay.live task.number other ∙ of.live; path = of.path; done = of.done; holdings = of.holdings }
 
   -- a frame that was given before
   pub given-stays : (task : TaskView B L) (ends : LentEnds) → IsOther task.number → IsGiven before task ends → IsGiven after task ends

@@ -39,7 +39,6 @@ use Rattle.task_frames.specs.Cores.{AreBooked, AreCounted, AreFrames, AreObjects
 use Rattle.task_frames.specs.Frames.{TaskView}
 use Rattle.task_frames.specs.Records.{AreGivenSo, HasNoLiveChild, IsOnlyLive, LiveFrame, NumberedFrames, as_given, come_at, come_to, live_at, synced_at}
 use Rattle.task_frames.specs.Resumes.{IsStep}
-use Rattle.task_frames.proofs.AsGiven.{others-given}
 use Rattle.task_frames.proofs.Booked as booked
 use Rattle.task_frames.proofs.Counted as counted
 use Rattle.task_frames.proofs.Failing.{still-one}
@@ -175,9 +174,10 @@ module _ {B L : Type 0} (G : Ghosts B L) (kept : KeptView) (mid : Mid B L) (asks
         has-next,
         refl,
         ap is_spawn goes.deed ∙ no_spawn,
-        record { live = others-given kept.live after.live mid.task.number (Some g) only; active_are = changed.others },
+        record { live = only.others; active_are = changed.others },
         λ is. childless (sym goes.deed ∙ is),
         begun,
+        omega (arith, count),
       )
 
     abbrev n : ℕ

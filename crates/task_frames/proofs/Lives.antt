@@ -199,6 +199,19 @@ child-comes before after number done parent other only child = elim (cases_eq ot
   | inr differs ↦ record { frame = child.frame; live = only.others other differs ∙ child.live; of = child.of }
 ]
 
+-- and none is one that wasn't
+pub child-came : (before after : NumberedFrames) (number done parent other : ℕ) → IsOnlyLive before after number (option_map (come_to done) (live_at before number))
+    → IsLiveChild after parent other → IsLiveChild before parent other
+child-came before after number done parent other only child = elim (cases_eq other number) [
+  | inl same ↦ by same (live_at before number) refl (sym only.changed ∙ ap (live_at after) (sym same) ∙ child.live)
+  | inr differs ↦ record { frame = child.frame; live = sym (only.others other differs) ∙ child.live; of = child.of }
+]
+  where
+    by : other ≡ number → (found : Option LiveFrame) → live_at before number ≡ found → option_map (come_to done) found ≡ Some child.frame → IsLiveChild before parent other
+    by same None none is = absurd (cc)
+    by same (Some was) there is =
+        record { frame = was; live = ap (live_at before) same ∙ there; of = ap (λ (f : LiveFrame). f.parent) (same_Some (come_to done was) child.frame is) ∙ child.of }
+
 pub come-keeps : (before after : NumberedFrames) (pairs : List NumberPair) (number done : ℕ) (found : Option LiveFrame) → live_at before number ≡ found → HasChildren before pairs
     → after ≡ come_at before number done found → HasChildren after pairs
 come-keeps before after pairs number done None none kept is = subst (λ fs. HasChildren fs pairs) (sym is) kept

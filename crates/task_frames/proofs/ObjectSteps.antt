@@ -88,8 +88,9 @@ module _ {B L : Type 0} (G : Ghosts B L) (kept : KeptView) (mid : Mid B L) (plac
       → (after : KeptView) (same : FrameAtCoreView B L) → after ≡ kept → same ≡ asking mid (ask.Read place) → IsStep G kept after mid.task (step.Waits same (wait.Version owing))
   read-waits owing owes after same after_is same_is =
       let there = object-there G kept mid (ask.Read place) has place number In refl at in
+      let named = at ∙ ap Some (sym (found G kept mid (ask.Read place) has place number In refl at).same) in
       waits-so G kept (asking mid (ask.Read place)) has after same (wait.Version owing) after_is same_is
-      (at_read mid.local place mid.at there.0 refl there.1 (owes there.0 there.1)) (owed-before G kept (asking mid (ask.Read place)) has owing place there.0 there.1 (owes there.0 there.1))
+      (at_read mid.local place mid.at there.0 refl named there.1 (owes there.0 there.1)) (owed-before G kept (asking mid (ask.Read place)) has owing place there.0 there.1 (owes there.0 there.1))
 
 module _ {B L : Type 0} (G : Ghosts B L) (kept : KeptView) (mid : Mid B L) (place number : ℕ) (value : Value) (has : HasIt G kept (asking mid (ask.Write place value)))
     (at : number_at mid.task.holdings place Out ≡ Some number) where

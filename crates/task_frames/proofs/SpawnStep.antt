@@ -49,7 +49,7 @@ use Rattle.task_frames.specs.declared.step.Step.TheVariants as step
 use Rattle.task_frames.specs.Cores.{AreBooked, AreCounted, AreFrames, AreObjects, AreQueues, FrameAtCoreView, HasIt, IsAtCore, IsCore, KeptView, MayBegin, Mid, asking}
 use Rattle.task_frames.specs.Frames.{TaskView}
 use Rattle.task_frames.specs.Giving.{AreMade, GivesObjects, queue_rights}
-use Rattle.task_frames.specs.Records.{LiveFrame, as_given, come_to, live_at}
+use Rattle.task_frames.specs.Records.{LiveFrame, come_to, live_at}
 use Rattle.task_frames.specs.Resumes.{EndsTaskByFault, IsStep}
 use Rattle.task_frames.proofs.Asked.{ends-by}
 use Rattle.task_frames.proofs.Booked as booked
@@ -409,10 +409,12 @@ module _ {B L : Type 0} (G : Ghosts B L) (kept : KeptView) (mid : Mid B L) (chil
             ap is_spawn spawn.deed,
             child-free,
             record {
-              live = λ m apart. ap (option_map as_given) (is.others m apart.0 apart.1);
+              live = λ m apart. is.others m apart.0 apart.1;
               active_are = λ m apart. active-after m ∙ others_spawned kept.state n kept.frames a (queue_rights hs) own-live free m apart.0 apart.1;
             },
             begun,
+            refl,
+            ap (λ (k : KeptView). k.frames) is.rest,
           )
 
         -- ---- by what the calls answer

@@ -1,5 +1,5 @@
 -- A frame that comes back to the core, and one that the core gives.
-use Rattle.std.proofs.Common.{◌≡◌, ◌≢◌, ℕ, ◌+◌, ◌-◌, false, List, Option, Some, None, refl, sym, ap, subst, ◌∙◌, arith}
+use Rattle.std.proofs.Common.{◌≡◌, ◌≢◌, ℕ, ◌+◌, ◌-◌, false, List, Option, Some, None, map, refl, sym, ap, subst, ◌∙◌, arith}
 use Rattle.std.proofs.lemmas.Option.{same_Some}
 use Rattle.std.specs.Option.{option_map}
 use Rattle.std.specs.Prelude.{slice_get}
@@ -12,7 +12,7 @@ use Rattle.swan_model.specs.Readings.{gone_on_by}
 use Rattle.swan_model.specs.Script.{script}
 use Rattle.swan_model.specs.Segments.{segment_queue}
 use Rattle.swan_model.specs.SerialTime.{Progress, Reading, frame_of}
-use Rattle.swan_model.specs.TrueFrames.{StandsAt}
+use Rattle.swan_model.specs.TrueFrames.{IsTrueFrame, StandsAt, give_in, gives_at}
 use Rattle.queues.specs.Asks.{LentEnds, OnNext}
 use Rattle.queues.specs.Reads.{deeds_among}
 use Rattle.queues.specs.Tells.{OnQueue}
@@ -20,11 +20,10 @@ use Rattle.queues.specs.Tree.{IsOnlyFrame}
 use Rattle.queues.proofs.ActiveAfter.{one_changed, one_goes_on}
 use Rattle.serial_elision.proofs.Lawful as elision
 use Rattle.task_frames.specs.declared.stage.Stage.{Stage}
-use Rattle.task_frames.specs.Cores.{FrameAtCoreView, HasIt, IsCore, IsGiven, IsOf, KeptView, after_coming_in}
-use Rattle.task_frames.specs.Frames.{AreEndsOf, AreLocal, FrameView, IsFrame, TaskView}
+use Rattle.task_frames.specs.Cores.{CoreView, FrameAtCoreView, HasIt, IsCore, IsCoreView, IsGiven, IsOf, KeptView, after_coming_in}
+use Rattle.task_frames.specs.Frames.{AreEndsOf, AreLocal, FrameView, IsAnyFrame, IsFrame, TaskView, state_of}
 use Rattle.task_frames.specs.Records.{IsOnlyLive, LiveFrame, NumberedFrames, come_at, come_to, live_at}
 use Rattle.task_frames.specs.Resumes.{EndsOf, HasLent, IsGivenAs, OthersStay}
-use Rattle.task_frames.proofs.AsGiven.{others-given}
 use Rattle.task_frames.proofs.Booked as booked
 use Rattle.task_frames.proofs.Counted as counted
 use Rattle.task_frames.proofs.Failing.{still-local}
@@ -32,6 +31,7 @@ use Rattle.task_frames.proofs.EndsLent.{ends-are}
 use Rattle.task_frames.proofs.Given.{with-state}
 use Rattle.task_frames.proofs.Goings.{lawful, own}
 use Rattle.task_frames.proofs.Live as live
+use Rattle.task_frames.proofs.LocalNames.{local-names}
 use Rattle.task_frames.proofs.Objects as objects
 use Rattle.task_frames.proofs.Queues as queues
 
@@ -66,6 +66,20 @@ module _ {B L : Type 0} (G : Ghosts B L) (kept : KeptView) (task : TaskView B L)
 
     sum : task.since + many ≡ task.done
     sum = let order = is.since.order in omega (arith, order)
+
+    -- it is true by the reading, with the names of what it holds
+    pub true-so : IsTrueFrame G task.plan kept.reading (state_of task stage)
+    true-so =
+        let told = core.frames.told task.number f of.live in
+        let was : StandsAt G task.plan task.path task.since told.top =
+        subst (λ path. StandsAt G task.plan path task.since told.top) of.path (subst (λ k. StandsAt G task.plan f.path k told.top) of.done told.stands) in
+        let named : map (give_in kept.reading) task.holdings ≡ gives_at G task.plan task.path task.since told.top =
+        subst (λ hs. map (give_in kept.reading) hs ≡ gives_at G task.plan task.path task.since told.top) of.holdings
+        (subst (λ path. map (give_in kept.reading) f.holdings ≡ gives_at G task.plan path task.since told.top) of.path
+        (subst (λ k. map (give_in kept.reading) f.holdings ≡ gives_at G task.plan f.path k told.top) of.done told.named)) in
+        let now : StandsAt G task.plan task.path (task.since + many) is.alone.top = subst (λ k. StandsAt G task.plan task.path k is.alone.top) (sym sum) is.alone.stands in
+        let stays = local-names G task.plan core.sound.lists task.path many task.since told.top is.alone.top was now (subst (AreLocal s task.path task.since) (sym sum) is.since) in
+        record { alone = is.alone; named = named ∙ sym stays ∙ ap (λ k. gives_at G task.plan task.path k is.alone.top) sum }
 
     module _ (after : KeptView) (only : IsOnlyLive kept.live after.live task.number (Some (come_to task.done f)))
         (after_is : after ≡ record kept { state = after_back kept.state task.number ends.deeds; reading = gone_on_by kept.reading task.number many; live = after.live })
@@ -126,7 +140,7 @@ module _ {B L : Type 0} (G : Ghosts B L) (kept : KeptView) (task : TaskView B L)
       taken = subst (λ k. HasIt G k (record { task = record task { since = task.done }; stage = stage })) (sym after_is) has-now
 
       pub taken-others : OthersStay kept after (λ other. other ≢ task.number)
-      taken-others = subst (λ k. OthersStay kept k (λ other. other ≢ task.number)) (sym after_is) (record { live = others-given kept.live after.live task.number (Some (come_to task.done f)) only; active_are = changed-now.others })
+      taken-others = subst (λ k. OthersStay kept k (λ other. other ≢ task.number)) (sym after_is) (record { live = only.others; active_are = changed-now.others })
 
 -- ---- it is given
 
@@ -291,3 +305,12 @@ come-so kept now task ends number done since name run state reading live same nu
     ∙ ap {B = KeptView} (λ d. record kept { state = after_back kept.state task.number ends.deeds; reading = gone_on_by kept.reading task.number (d - since); live = come_at kept.live task.number d (live_at kept.live task.number) }) done_is
     ∙ ap {B = KeptView} (λ z. record kept { state = after_back kept.state task.number ends.deeds; reading = gone_on_by kept.reading task.number (task.done - z); live = come_at kept.live task.number task.done (live_at kept.live task.number) }) since_is
     ∙ ap (λ k. after_coming_in k task ends) same
+
+-- ---- a frame that the core gave, whatever it did by itself since
+
+pub given-true : {B L E : Type 0} (G : Ghosts B L) (name : E → Option Script) (ends : E → LentEnds) (core : CoreView B L) (kept : KeptView) (frame : FrameView B L E) (stage : Stage L) → IsCoreView G core
+    → core.kept ≡ Some kept → frame.task.plan ≡ core.plan → IsGiven kept frame.task (ends frame.ends) → IsAnyFrame G name ends frame → frame.stage ≡ Some stage
+    → IsTrueFrame G core.plan kept.reading (state_of frame.task stage)
+given-true G name ends core kept frame stage is keeps plan given any stands =
+    subst (λ p. IsTrueFrame G p kept.reading (state_of frame.task stage)) plan
+    (true-so G kept frame.task (subst (λ p. IsCore G p kept) (sym plan) (is kept keeps).0) given.of stage (name frame.ends) (ends frame.ends) (any stage stands))

@@ -201,6 +201,6 @@ left-over kept other after n m same number name run is only =
 -- a step is the same whether or not its unit of fuel is taken
 pub paid-step : {B L : Type 0} (G : Ghosts B L) (before after : KeptView) (task : TaskView B L) (fuel : ℕ) (its : Step B L) → IsStep G before after (record task { fuel = fuel }) its → IsStep G before after task its
 paid-step G before after task fuel (step.Runs next) so = so
-paid-step G before after task fuel (step.Spawned parent new) so = (so.0, so.1, so.2, record { plan = so.3.plan; path = so.3.path; done = so.3.done; other = so.3.other }, so.4, so.5, so.6, so.7)
+paid-step G before after task fuel (step.Spawned parent new) so = (so.0, so.1, so.2, record { plan = so.3.plan; path = so.3.path; done = so.3.done; other = so.3.other }, so.4, so.5, so.6, so.7, so.8, so.9)
 paid-step G before after task fuel (step.Waits same wait_for) so = so
 paid-step G before after task fuel step.Ended so = so

@@ -14,6 +14,7 @@ use Rattle.swan_model.specs.Elision.{root_holdings}
 use Rattle.swan_model.specs.Granted.{is_spawn}
 use Rattle.swan_model.specs.PathOrder.{comes_before}
 use Rattle.swan_model.specs.QueueState.{ActiveFrame, LentEnd, active, after_lend}
+use Rattle.swan_model.specs.Rights.{allows}
 use Rattle.swan_model.specs.Script.{script}
 use Rattle.swan_model.specs.SerialState.{Activation, Holding}
 use Rattle.swan_model.specs.SerialStep.{given, number_at}
@@ -37,7 +38,7 @@ use Rattle.task_frames.specs.declared.step.Step.TheVariants as step
 use Rattle.task_frames.specs.Cores.{MayBegin, FrameAtCoreView, CoreView, HasIt, IsCore, IsGiven, KeptView, after_coming_in}
 use Rattle.object_versions.specs.Following.{WaitsForNone}
 use Rattle.task_frames.specs.Frames.{FrameView, TaskView, is_whole, root_task}
-use Rattle.task_frames.specs.Records.{HasNoLiveChild, IsOldestChild, LiveFrame, NumberedFrames, as_given, live_at}
+use Rattle.task_frames.specs.Records.{HasNoLiveChild, IsLiveChild, IsOldestChild, LiveFrame, NumberedFrames, as_given, live_at}
 
 -- ---- waits
 
@@ -91,9 +92,10 @@ module _ {B L : Type 0} (G : Ghosts B L) where
 
   module _ (kept : KeptView) (frame : FrameAtCoreView B L) where
     -- A version is waited for where it was given to the frame to read, before the first step; or where the frame asks to read it.
+    -- Either way the frame may read it.
     pub data WaitsForVersion (number : ℕ) : Type 0 where
-      at_first : (place : ℕ) → frame.task.done ≡ 0 → Awaits kept.versions frame.task.number place number → WaitsForVersion number
-      at_read : (local : L) (place at : ℕ) (object : Placed) → frame.stage ≡ Asking local (ask.Read place) at
+      at_first : (place : ℕ) → frame.task.done ≡ 0 → (awaits : Awaits kept.versions frame.task.number place number) → allows awaits.object.mode In ≡ true → WaitsForVersion number
+      at_read : (local : L) (place at : ℕ) (object : Placed) → frame.stage ≡ Asking local (ask.Read place) at → number_at frame.task.holdings place In ≡ Some object.object
           → placed_at kept.versions frame.task.number place ≡ Some object → object.present ≡ owed number → WaitsForVersion number
 
     -- A turn to pop is waited for before the first step, where no version is, of the oldest sibling that pops what the frame pops; or
@@ -121,11 +123,26 @@ MayNotUse holdings (ask.Empty place) = number_at holdings place Pop ≡ None
 MayNotUse holdings (ask.Spawn new) = given holdings new.gives ≡ None
 MayNotUse holdings _ = ⊥
 
--- These frames are in the record as they were given, and among the queues as before. (How many of their children failed is what the
--- core counts: `AreCounted`.)
+-- These frames are in the record, and among the queues, as before.
 pub record OthersStay (before after : KeptView) (IsOther : ℕ → Type 0) : Type 0 where
+  pub live : (other : ℕ) → IsOther other → live_at after.live other ≡ live_at before.live other
+  pub active_are : (other : ℕ) → IsOther other → active after.state other ≡ active before.state other
+
+-- They are in the record as they were given, and among the queues as before. (How many of their children failed is what the core
+-- counts: `AreCounted`.)
+pub record OthersStayAsGiven (before after : KeptView) (IsOther : ℕ → Type 0) : Type 0 where
   pub live : (other : ℕ) → IsOther other → option_map as_given (live_at after.live other) ≡ option_map as_given (live_at before.live other)
   pub active_are : (other : ℕ) → IsOther other → active after.state other ≡ active before.state other
+
+-- Where the frame of this number ends, all others stay as they were given, and all but the one above it as they were.
+abbrev pub OthersStayAtEnd : (before after : KeptView) (number : ℕ) → Type 0
+OthersStayAtEnd before after number =
+    OthersStayAsGiven before after (λ other. other ≢ number)
+    × OthersStay before after (λ other. (other ≢ number) × (¬ IsLiveChild before.live other number))
+
+-- there were so many frames more since then
+abbrev pub HasCounted : (before after : KeptView) (more : ℕ) → Type 0
+HasCounted before after more = after.frames ≡ before.frames + more
 
 -- the same task with one step more done
 abbrev pub IsOneOn : {B L : Type 0} → (before after : TaskView B L) → Type 0
@@ -141,23 +158,23 @@ pub record IsNewChildOf {B L : Type 0} (parent child : TaskView B L) : Type 0 wh
 module _ {B L : Type 0} (G : Ghosts B L) (before after : KeptView) (task : TaskView B L) where
   -- What a step at the core leaves: the frame one step on; or with its child; or as it was, but for the ask of its body, with what it
   -- waits for; or it has ended. A wait for all children is over only where there is none, and so is the frame. No step is taken of a
-  -- frame that may not begin.
+  -- frame that may not begin. The number of a child is how many frames there were.
   abbrev pub IsStep : Step B L → Type 0
   IsStep (step.Runs next) =
       HasIt G after next × IsOneOn task next.task × (is_spawn (deed_now G task) ≡ false)
       × OthersStay before after (λ other. other ≢ task.number)
-      × (deed_now G task ≡ deed.Sync → HasNoLiveChild before.live task.number) × MayBegin before task.number
+      × (deed_now G task ≡ deed.Sync → HasNoLiveChild before.live task.number) × MayBegin before task.number × HasCounted before after 0
   IsStep (step.Spawned parent new) =
       HasIt G after parent × HasIt G after new × IsOneOn task parent.task × IsNewChildOf task new.task × (is_spawn (deed_now G task) ≡ true)
       × (live_at before.live new.task.number ≡ None) × OthersStay before after (λ other. (other ≢ task.number) × (other ≢ new.task.number))
-      × MayBegin before task.number
+      × MayBegin before task.number × (new.task.number ≡ before.frames) × HasCounted before after 1
   IsStep (step.Waits same wait_for) =
       HasIt G after same × (after ≡ before) × (same.task ≡ record task { fuel = same.task.fuel })
       × IsShown G after same wait_for × IsLiveBefore after.live task.path (waited_for wait_for)
   IsStep step.Ended =
       IsCore G task.plan after × IsLast G task × (is_spawn (deed_now G task) ≡ false)
-      × (live_at after.live task.number ≡ None) × OthersStay before after (λ other. other ≢ task.number)
-      × HasNoLiveChild before.live task.number × MayBegin before task.number
+      × (live_at after.live task.number ≡ None) × OthersStayAtEnd before after task.number
+      × HasNoLiveChild before.live task.number × MayBegin before task.number × HasCounted before after 0
 
 -- ---- frames that are given
 
@@ -203,10 +220,10 @@ module _ {B Q L E : Type 0} (of : EndsOf E) (before after : KeptView) where
   -- What is answered of a step: the frames are given that came of it, and all others are kept as before.
   abbrev pub IsAnswered : Step B L → Resumed B Q L E → Type 0
   IsAnswered (step.Runs next) (resumed.Runs frame steps) =
-      (steps.count ≡ 1) × IsGivenAs of after next frame × OthersStay before after (λ other. other ≢ next.task.number)
+      (steps.count ≡ 1) × IsGivenAs of after next frame × OthersStay before after (λ other. other ≢ next.task.number) × HasCounted before after 0
   IsAnswered (step.Spawned parent new) (resumed.Spawned frame spawned steps) =
       (steps.count ≡ 1) × IsGivenAs of after parent frame × IsGivenAs of after new spawned
-      × OthersStay before after (λ other. (other ≢ parent.task.number) × (other ≢ new.task.number))
+      × OthersStay before after (λ other. (other ≢ parent.task.number) × (other ≢ new.task.number)) × HasCounted before after 0
   IsAnswered (step.Waits same wait_for) (resumed.Waits frame waited) =
       (waited.wait ≡ wait_for) × IsGivenAs of after same frame × HasLent before after same.task.number
   IsAnswered step.Ended (resumed.Ended steps) = (steps.count ≡ 1) × (after ≡ before)
@@ -243,6 +260,10 @@ pub record IsShownBy {B L E : Type 0} (G : Ghosts B L) (of : EndsOf E) (before a
 abbrev pub OthersKept : {B L : Type 0} → (before after : CoreView B L) → (ℕ → Type 0) → Type 0
 OthersKept before after IsOther = ForSome before.kept (λ kept. ForSome after.kept (λ now. OthersStay kept now IsOther))
 
+-- and so they are where the frame of this number has ended, but the one above it may have one more failed child
+abbrev pub OthersKeptAtEnd : {B L : Type 0} → (before after : CoreView B L) → ℕ → Type 0
+OthersKeptAtEnd before after number = ForSome before.kept (λ kept. ForSome after.kept (λ now. OthersStayAtEnd kept now number))
+
 -- once the frame has come in it has its turn to pop, and waits for nothing that it was given to read
 abbrev pub MayStep : {B L E : Type 0} → EndsOf E → CoreView B L → FrameView B L E → Type 0
 MayStep of before frame = ForSome before.kept (λ kept. MayBegin (after_coming_in kept frame.task (of.ends frame.ends)) frame.task.number)
@@ -255,27 +276,41 @@ HasNone core number = ForSome core.kept (λ kept. live_at kept.live number ≡ N
 abbrev pub HasNoChildAtCore : {B L : Type 0} → CoreView B L → ℕ → Type 0
 HasNoChildAtCore core number = ForSome core.kept (λ kept. HasNoLiveChild kept.live number)
 
+-- the next new frame of the core has this number, which is how many frames there were
+abbrev pub IsNextNumber : {B L : Type 0} → CoreView B L → ℕ → Type 0
+IsNextNumber core number = ForSome core.kept (λ kept. number ≡ kept.frames)
+
+-- the core had so many frames more since then
+abbrev pub HasCountedAtCore : {B L : Type 0} → (before after : CoreView B L) (more : ℕ) → Type 0
+HasCountedAtCore before after more = ForSome before.kept (λ kept. ForSome after.kept (λ now. HasCounted kept now more))
+
 module _ {B Q L E : Type 0} (G : Ghosts B L) (of : EndsOf E) (before after : CoreView B L) (frame : FrameView B L E) where
   abbrev pub IsResumed : Resumed B Q L E → Type 0
   IsResumed (resumed.Runs next steps) =
       (steps.count ≡ 1) × IsGivenBy of after next × IsOneOn frame.task next.task × (is_spawn (deed_now G frame.task) ≡ false)
       × OthersKept before after (λ other. other ≢ frame.task.number)
-      × (deed_now G frame.task ≡ deed.Sync → HasNoChildAtCore before frame.task.number) × MayStep of before frame
+      × (deed_now G frame.task ≡ deed.Sync → HasNoChildAtCore before frame.task.number) × MayStep of before frame × HasCountedAtCore before after 0
   IsResumed (resumed.Spawned parent new steps) =
       (steps.count ≡ 1) × IsGivenBy of after parent × IsGivenBy of after new × IsOneOn frame.task parent.task × IsNewChildOf frame.task new.task
       × (is_spawn (deed_now G frame.task) ≡ true) × HasNone before new.task.number
       × OthersKept before after (λ other. (other ≢ frame.task.number) × (other ≢ new.task.number)) × MayStep of before frame
+      × IsNextNumber before new.task.number × HasCountedAtCore before after 1
   IsResumed (resumed.Waits same waited) =
       IsGivenBy of after same × (same.task ≡ record frame.task { since = frame.task.done; fuel = same.task.fuel }) × IsShownBy G of before after frame same waited.wait
-      × OthersKept before after (λ other. other ≢ frame.task.number)
+      × OthersKept before after (λ other. other ≢ frame.task.number) × HasCountedAtCore before after 0
   IsResumed (resumed.Ended steps) =
       (steps.count ≡ 1) × (is_some after.kept ≡ true) × IsLast G frame.task × (is_spawn (deed_now G frame.task) ≡ false) × HasNone after frame.task.number
-      × OthersKept before after (λ other. other ≢ frame.task.number)
-      × HasNoChildAtCore before frame.task.number × MayStep of before frame
+      × OthersKeptAtEnd before after frame.task.number
+      × HasNoChildAtCore before frame.task.number × MayStep of before frame × HasCountedAtCore before after 0
   IsResumed (resumed.Strange same foreign) =
       (same ≡ frame) × (foreign.number ≡ frame.task.number) × (after ≡ before)
       × ForSome before.kept (λ kept. ¬ IsGiven kept frame.task (of.ends frame.ends))
   IsResumed resumed.NoMemory = (after ≡ record before { kept = None })
+
+-- Where a frame waits, the one that the wait names is live in the core, and earlier in serial order.
+abbrev pub WaitsForEarlier : {B Q L E : Type 0} → CoreView B L → Resumed B Q L E → Type 0
+WaitsForEarlier core (resumed.Waits same waited) = ForSome core.kept (λ kept. IsLiveBefore kept.live same.task.path (waited_for waited.wait))
+WaitsForEarlier core _ = Unit {0}
 
 -- what holds where a step was taken, or has to wait
 abbrev pub OnTried : {B Q L E : Type 0} → Resumed B Q L E → Type 0 → Type 0
@@ -291,11 +326,12 @@ OnGoneOn _ Holds = Unit {0}
 
 -- ---- the beginning
 
--- The root is the one frame that the core has, as it gave it. It has taken no step, and no fault is booked.
+-- The root is the one frame that the core has and had, as it gave it. It has taken no step, and no fault is booked.
 pub record IsOpened {B L E : Type 0} (of : EndsOf E) (core : CoreView B L) (root : FrameView B L E) : Type 0 where
   pub given : IsGivenBy of core root
   pub first : root.task.number ≡ 0
   pub alone : (kept : KeptView) → core.kept ≡ Some kept → (number : ℕ) (live : LiveFrame) → live_at kept.live number ≡ Some live → number ≡ 0
+  pub count : (kept : KeptView) → core.kept ≡ Some kept → kept.frames ≡ 1
   pub task : root.task ≡ root_task core.plan (root_holdings core.plan.roots)
   pub begins : root.stage ≡ Some (Ready core.plan.root_local answer.Start)
   pub faultless : (kept : KeptView) → core.kept ≡ Some kept → kept.faults ≡ []

@@ -8,13 +8,15 @@ ghost use Rattle.swan_model.specs.PathOrder.{comes_before};
 ghost use Rattle.swan_model.specs.Readings.{gone_on_by};
 ghost use Rattle.swan_model.specs.Script.{script};
 ghost use Rattle.swan_model.specs.SerialTime.{Progress, Reading, frame_of, is_earlier, times};
+ghost use Rattle.swan_model.specs.TrueFrames.{IsTrueFrame};
 ghost use Rattle.swan_model.specs.Versions.{VersionState};
 ghost use Rattle.swan_model.specs.VersionsFollow.{ObjectsFollow};
 ghost use Rattle.task_frames.specs.declared.resumed.Resumed.{Resumed};
 ghost use Rattle.task_frames.specs.declared.resumed.Resumed.TheVariants as resumed;
+ghost use Rattle.task_frames.specs.declared.stage.Stage.{Stage};
 ghost use Rattle.task_frames.specs.Cores.{CoreView, IsCore, IsCoreView, IsGiven, KeptView};
 ghost use Rattle.task_frames.specs.Earliest.{IsEarliest, has_stepped, progress_of};
-ghost use Rattle.task_frames.specs.Frames.{AreLocal, FrameView};
+ghost use Rattle.task_frames.specs.Frames.{AreLocal, FrameView, IsAnyFrame, state_of};
 ghost use Rattle.task_frames.specs.Records.{LiveFrame, live_at};
 ghost use Rattle.task_frames.specs.Resumes.{IsResumed, ends_of};
 
@@ -35,6 +37,14 @@ pub fn live_frames_stand_in_serial_order<B: Body>()
     ensures { (plan : Plan B B.Local) (kept : KeptView) → IsCore B.Body plan kept
         → (number other : ℕ) (a b : LiveFrame) → live_at kept.live number ≡ Some a → live_at kept.live other ≡ Some b
         → comes_before a.path b.path ≡ is_earlier (script B.Body plan) (progress_of number a) (progress_of other b) }
+{}
+
+/// The law that each frame which a core gave last under its number is true for its plan, whatever it did by itself since: it is
+/// what its task is in the elision, and by the core's reading it holds what its task holds there.
+pub fn given_frames_are_true<B: Body, Q: Queues>()
+    ensures { (core : CoreView B B.Local) (kept : KeptView) (frame : FrameView B B.Local Q.Ends) (stage : Stage B.Local) → IsCoreView B.Body core → core.kept ≡ Some kept
+        → frame.task.plan ≡ core.plan → IsGiven kept frame.task (Q.Ends.ends frame.ends) → IsAnyFrame B.Body Q.Ends.name Q.Ends.ends frame → frame.stage ≡ Some stage
+        → IsTrueFrame B.Body core.plan kept.reading (state_of frame.task stage) }
 {}
 
 /// The law that a run is never stuck. A core that isn't done has a live frame that comes before all others, and the resume of

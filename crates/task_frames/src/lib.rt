@@ -75,8 +75,8 @@ pub use frame::Frame;
 pub use holding::Holding;
 use kept::Kept;
 pub use laws::{
-    a_core_is_never_stuck, live_frames_stand_in_serial_order, objects_follow_local_steps,
-    paths_stand_in_one_order,
+    a_core_is_never_stuck, given_frames_are_true, live_frames_stand_in_serial_order,
+    objects_follow_local_steps, paths_stand_in_one_order,
 };
 use live_record::{LiveFrame, LiveRecord};
 pub use outcome::{Ran, RunOutcome};

@@ -2,7 +2,7 @@
 ghost use Rattle.std.specs.Prelude.{◌≡◌, None, Some, true};
 ghost use Rattle.std.specs.Option.{ForSome};
 ghost use Rattle.task_frames.specs.Cores.{IsCoreView, IsGiven};
-ghost use Rattle.task_frames.specs.Resumes.{IsLast, IsResumed, OnGoneOn, OnTried, ends_of};
+ghost use Rattle.task_frames.specs.Resumes.{IsLast, IsResumed, OnGoneOn, OnTried, WaitsForEarlier, ends_of};
 ghost use Rattle.task_frames.specs.declared.resumed.Resumed.TheVariants as resumed;
 
 use crate::{Foreign, Frame, Kept, PlanRun, Resumed, Run, Step, Steps, Waited};
@@ -74,6 +74,7 @@ impl<B: Body, Q: Queues> Core<B, Q> {
 
         // what is answered, and what it leaves
         ensures resumed { IsResumed B.Body (ends_of Q.Ends.LocalEnds) self.old self.new frame result }
+        ensures earlier { WaitsForEarlier self.new result }
         ensures gone_on { OnGoneOn result (¬ IsLast B.Body frame.task) }
         ensures given { OnTried result (ForSome self.old.kept (λ kept. IsGiven kept frame.task (Q.Ends.ends frame.ends))) }
         ensures dead { self.old.kept ≡ None → result ≡ resumed.NoMemory }

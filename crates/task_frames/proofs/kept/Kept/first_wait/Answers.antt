@@ -1,4 +1,6 @@
-use Rattle.std.proofs.Common.{◌<◌, ◌≤◌, rules, sym, subst, arith}
+use Rattle.std.proofs.Common.{◌≡◌, ◌<◌, ◌≤◌, true, rules, sym, subst, arith}
+use Rattle.swan_model.specs.declared.rights.Mode.TheVariants.{In}
+use Rattle.swan_model.specs.Rights.{allows}
 use Rattle.swan_model.specs.Versions.{Awaits}
 use Rattle.pop_order.specs.Turns.{Blocks}
 use Rattle.object_versions.specs.Following.{WaitsForNone}
@@ -11,8 +13,9 @@ returns-then-done-gt0-clause-begun g c = begun-so g.B.Body _ _ c.requires.has (s
 
 pub returns-in-Err-clause-shown : goal.returns-in-Err-clause-shown
 returns-in-Err-clause-shown g c =
-    let err = over (λ k n. (place : _) × Awaits k.versions n place c.in-Err.owing) _ _ _ _ (sym c.self.view_is) (sym c.number-number.ensures) (c.in-Err.ensures.err.0, c.in-Err.ensures.err.1) in
-    waits-awaited g.B.Body _ _ c.requires.has c.done-done.result c.in-Err.owing c.done-done.ensures (search rules) err.0 err.1
+    let err = over (λ k n. (place : _) × (awaits : Awaits k.versions n place c.in-Err.owing) × (allows awaits.object.mode In ≡ true)) _ _ _ _ (sym c.self.view_is) (sym c.number-number.ensures)
+    (c.in-Err.ensures.err.0, c.in-Err.ensures.err.1, c.in-Err.ensures.err.2) in
+    waits-awaited g.B.Body _ _ c.requires.has c.done-done.result c.in-Err.owing c.done-done.ensures (search rules) err.0 err.1 err.2
 
 pub returns-in-Err-clause-earlier : goal.returns-in-Err-clause-earlier
 returns-in-Err-clause-earlier g c =

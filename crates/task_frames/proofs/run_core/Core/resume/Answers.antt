@@ -2,7 +2,7 @@ use Rattle.std.proofs.Common.{refl, sym, subst, ap, ◌∙◌, Some}
 use Rattle.task_frames.specs.Cores.{CoreView, IsCore}
 use Rattle.task_frames.specs.Frames.{TaskView}
 use Rattle.task_frames.specs.Resumes.{IsLast, OnGoneOn, ends_of}
-use Rattle.task_frames.proofs.Answered.{gone-on, resumed-so, step-core}
+use Rattle.task_frames.proofs.Answered.{gone-on, resumed-so, step-core, waits-earlier}
 use Rattle.task_frames.proofs.run_core.Core.resume.Goals as goal
 
 pub take_in-requires-clause-core : goal.take_in-requires-clause-core
@@ -42,3 +42,9 @@ returns-in-Ok-step-clause-gone_on g c =
     subst (λ task. OnGoneOn c.answer-resumed.result (¬ IsLast g.B.Body task)) c.in-Ok.ensures.task
     (gone-on g.row.Q.Denot g.B.Body (ends_of g.Q.Ends.LocalEnds) c.take_in.new.self c.step.new.self c.answer-resumed.new.self _ c.in-Ok-step.step c.answer-resumed.result
     c.in-Ok-step.ensures.step c.answer-resumed.ensures.answered)
+
+pub returns-in-Ok-step-clause-earlier : goal.returns-in-Ok-step-clause-earlier
+returns-in-Ok-step-clause-earlier g c =
+    waits-earlier g.row.Q.Denot g.B.Body (ends_of g.Q.Ends.LocalEnds) c.take_in.new.self c.step.new.self c.answer-resumed.new.self
+    (record c.args.self.now { kept = Some c.answer-resumed.new.self }) _ c.in-Ok-step.step c.answer-resumed.result refl
+    c.in-Ok-step.ensures.step c.answer-resumed.ensures.answered
