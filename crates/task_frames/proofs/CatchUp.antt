@@ -24,6 +24,7 @@ pub local-passes : (does : Deed) → is_local does ≡ true → (is_object_deed 
 local-passes deed.Quiet is = (refl, refl, refl)
 local-passes (deed.Push queue value) is = (refl, refl, refl)
 local-passes (deed.Pop queue) is = (refl, refl, refl)
+local-passes (deed.Test queue) is = (refl, refl, refl)
 local-passes _ is = absurd (cc)
 
 -- what comes next for a frame is what its task does after as many steps

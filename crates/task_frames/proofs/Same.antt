@@ -1,11 +1,14 @@
 -- A frame before and after several of its steps.
-use Rattle.std.proofs.Common.{◌≡◌, inl, inr, ℕ, Bool, true, false, List, Option, Some, refl, sym, ap, subst, ◌∙◌, arith}
+use Rattle.std.proofs.Common.{◌≡◌, inl, inr, ◌⊎◌, ℕ, Bool, true, false, List, Option, Some, refl, sym, ap, subst, ◌∙◌, arith}
 use Rattle.std.proofs.lemmas.Bool.{cases_Bool}
 use Rattle.std.proofs.lemmas.Option.{same_Some}
+use Rattle.std.specs.Option.{ForSome}
 use Rattle.swan_model.specs.declared.body.Ask.{Ask}
 use Rattle.swan_model.specs.declared.body.Ask.TheVariants as ask
+use Rattle.swan_model.specs.declared.rights.Mode.TheVariants.{Pop}
 use Rattle.swan_model.specs.declared.script.Script.{Script}
 use Rattle.swan_model.specs.SerialState.{Holding}
+use Rattle.swan_model.specs.SerialStep.{number_at}
 use Rattle.queues.specs.Asks.{LentEnds, has_end, with_deeds}
 use Rattle.queues.specs.Ends.{EndCounts}
 use Rattle.task_frames.specs.declared.stage.Stage.{Stage}
@@ -27,6 +30,18 @@ not-served-so holdings hs ends es before after asks again holds same asked not =
     subst (λ h. IsNotServed h es before after again) holds
     (subst (λ e. IsNotServed holdings e before after again) (sym same) (subst (IsNotServed holdings ends before after) (sym asked) not))
 
+-- a consumer that had nothing lately had nothing since earlier
+none-popped : (holdings : List Holding) (ends : LentEnds) (before between after : Counts) (place : ℕ) → AreLater ends before between
+    → ForSome (number_at holdings place Pop) (λ queue. (has_end ends queue false ≡ false) ⊎ WasEmptySince (between queue false) (after queue false))
+    → ForSome (number_at holdings place Pop) (λ queue. (has_end ends queue false ≡ false) ⊎ WasEmptySince (before queue false) (after queue false))
+none-popped holdings ends before between after place later not = λ queue at. elim (cases_Bool (has_end ends queue false)) [
+  | inl has ↦ elim (not queue at) [
+    | inl none ↦ inl none
+    | inr was ↦ inr (empty-earlier (before queue false) (between queue false) (after queue false) (later queue false has) was)
+  ]
+  | inr none ↦ inl none
+]
+
 -- what the ends didn't serve lately they didn't serve since earlier
 not-served-earlier : {L : Type 0} (holdings : List Holding) (ends : LentEnds) (before between after : Counts) (asks : Ask L) → AreLater ends before between
     → IsNotServed holdings ends between after asks → IsNotServed holdings ends before after asks
@@ -40,14 +55,8 @@ not-served-earlier holdings ends before between after (ask.Push place value) lat
   ]
   | inr none ↦ inl none
 ]
-not-served-earlier holdings ends before between after (ask.Pop place) later not = λ queue at. elim (cases_Bool (has_end ends queue false)) [
-  | inl has ↦ elim (not queue at) [
-    | inl none ↦ inl none
-    | inr was ↦ inr (empty-earlier (before queue false) (between queue false) (after queue false) (later queue false has) was)
-  ]
-  | inr none ↦ inl none
-]
-not-served-earlier holdings ends before between after (ask.Empty place) later not = not
+not-served-earlier holdings ends before between after (ask.Pop place) later not = none-popped holdings ends before between after place later not
+not-served-earlier holdings ends before between after (ask.Empty place) later not = none-popped holdings ends before between after place later not
 not-served-earlier holdings ends before between after ask.NewQueue later not = not
 not-served-earlier holdings ends before between after (ask.NewObject value) later not = not
 not-served-earlier holdings ends before between after (ask.Spawn child) later not = not

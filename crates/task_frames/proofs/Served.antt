@@ -1,4 +1,4 @@
--- Pushes and pops that a frame's ends can serve: they are the frame's next queue deeds, and the frame goes on with what
+-- Pushes, pops and tests that a frame's ends can serve: they are the frame's next queue deeds, and the frame goes on with what
 -- the ends answer.
 use Rattle.std.proofs.Common.{◌≡◌, inl, inr, ℕ, ◌+◌, ◌<◌, Bool, true, false, cond, List, Option, Some, None, length, map, refl, sym, ap, subst, ◌∙◌, arith}
 use Rattle.std.proofs.lemmas.Bool.{cases_lt, eqb-true, lt-ltb}
@@ -30,11 +30,11 @@ use Rattle.swan_model.specs.SerialTime.{Progress, is_queue_deed, point, time, ti
 use Rattle.swan_model.specs.Told.{count, deed_at, pushes, taken}
 use Rattle.swan_model.proofs.TaskEntries.{point_is}
 use Rattle.queues.specs.Asks.{LentEnds, is_end_of, with_deeds}
-use Rattle.queues.specs.Ends.{HasEnd, IsItemNext, IsNextPop, IsNextPush}
+use Rattle.queues.specs.Ends.{HasEnd, HoldsNext, IsItemNext, IsNextPop, IsNextPush, IsNextTest}
 use Rattle.queues.proofs.NextDeeds.{next_same}
 use Rattle.queues.proofs.ReadingMakes.{deed_time}
 use Rattle.serial_elision.specs.TaskSteps.{GoesOn, IsAsking, MayUseAt}
-use Rattle.serial_elision.proofs.AskSteps.{pops-none, pops-on, pushes-on, use-named}
+use Rattle.serial_elision.proofs.AskSteps.{pops-none, pops-on, pushes-on, tests-none, tests-some, use-named}
 use Rattle.serial_elision.proofs.FewMade.{few-deeds}
 use Rattle.serial_elision.proofs.Held.{IsUsed, used-at}
 use Rattle.serial_elision.proofs.Lawful.{lawful}
@@ -153,6 +153,21 @@ module _ {B L : Type 0} (G : Ghosts B L) (task : TaskView B L) (name : Option Sc
       next-is (deed.Pop has.origin) (pop-deed place has.origin asks has.may) refl
       ∙ ap (λ (o : Origin). Some (deed.Pop o)) (sym (same-queue place number Pop has refl false origin end))
 
+  -- the deed of a test, whatever it finds
+  test-deed : (place : ℕ) (origin : Origin) → asked ≡ ask.Empty place → MayUseAt G task.plan task.path task.done top place Pop origin → deed_at s now ≡ deed.Test origin
+  test-deed place origin asks may =
+      let asking = subst (IsAsking G task.plan task.path task.done top local) asks (is-asking G name task ends local asked before is) in
+      elim (cases_lt (taken s origin now) (count s origin now)) [
+        | inl some ↦ (tests-some G task.plan task.path task.done top local is.plan.lists place origin may asking some).deed
+        | inr none ↦ (tests-none G task.plan task.path task.done top local is.plan.lists place origin may asking none).deed
+      ]
+
+  next-test : (place number : ℕ) → asked ≡ ask.Empty place → number_at task.holdings place Pop ≡ Some number → IsNextTest s ends number
+  next-test place number asks at origin end =
+      let has = usable place number Pop at in
+      next-is (deed.Test has.origin) (test-deed place has.origin asks has.may) refl
+      ∙ ap (λ (o : Origin). Some (deed.Test o)) (sym (same-queue place number Pop has refl false origin end))
+
   pub room : ends.deeds < COUNT_MOST
   room =
       let most = is.plan.fuel in
@@ -160,14 +175,21 @@ module _ {B L : Type 0} (G : Ghosts B L) (task : TaskView B L) (name : Option Sc
       let deeds = is.lent.deeds in
       omega (arith, few, deeds, most)
 
+  -- where the frame's next step is a deed of queues, its ends have the time of that step
+  time-is : (does : Deed) → deed_at s now ≡ does → is_queue_deed does ≡ true → queue_time s ends.path ends.deeds ≡ now
+  time-is does it queue_deed =
+      let deed_here : is_queue_deed (deed_at s (point s progress)) ≡ true = ap (λ t. is_queue_deed (deed_at s t)) (point_is s progress is.alone.stands.left) ∙ ap is_queue_deed it ∙ queue_deed in
+      ap (λ p. queue_time s p ends.deeds) is.lent.path ∙ ap (queue_time s task.path) is.lent.deeds ∙ deed_time s seen progress fits deed_here ∙ point_is s progress is.alone.stands.left
+
   -- the item that the script has for the frame's pop
   item-is : (origin : Origin) (item : Value) → deed_at s now ≡ deed.Pop origin → IsItemNext s ends item
       → (slice_get (pushes s origin) (taken s origin now) ≡ Some item) × (taken s origin now < count s origin now)
   item-is origin item it told =
-      let deed_here : is_queue_deed (deed_at s (point s progress)) ≡ true = ap (λ t. is_queue_deed (deed_at s t)) (point_is s progress is.alone.stands.left) ∙ ap is_queue_deed it in
-      let time_is : queue_time s ends.path ends.deeds ≡ now =
-      ap (λ p. queue_time s p ends.deeds) is.lent.path ∙ ap (queue_time s task.path) is.lent.deeds ∙ deed_time s seen progress fits deed_here ∙ point_is s progress is.alone.stands.left in
-      subst (λ t. (slice_get (pushes s origin) (taken s origin t) ≡ Some item) × (taken s origin t < count s origin t)) time_is (told origin (next-is (deed.Pop origin) it refl))
+      subst (λ t. (slice_get (pushes s origin) (taken s origin t) ≡ Some item) × (taken s origin t < count s origin t)) (time-is (deed.Pop origin) it refl) (told origin (next-is (deed.Pop origin) it refl))
+
+  -- the script has an item for the frame's test
+  some-is : (origin : Origin) → deed_at s now ≡ deed.Test origin → HoldsNext s ends → taken s origin now < count s origin now
+  some-is origin it told = subst (λ t. taken s origin t < count s origin t) (time-is (deed.Test origin) it refl) (told origin (next-is (deed.Test origin) it refl))
 
   then-pushed : 0 < task.done → (place number : ℕ) (value : Value) → asked ≡ ask.Push place value → number_at task.holdings place Push ≡ Some number
       → IsFrame G (with-steps G name task (task.done + 1) task.fuel) name (with_deeds ends (ends.deeds + 1)) (Ready local answer.Nothing)
@@ -189,6 +211,15 @@ module _ {B L : Type 0} (G : Ghosts B L) (task : TaskView B L) (name : Option Sc
       (λ value found goes. goes-on G name task ends local asked before is begun (answer.Item item) (deed.Pop has.origin) (with_deeds ends (ends.deeds + 1))
       (subst (λ v. GoesOn G task.plan task.path task.done top local (answer.Item v) (deed.Pop has.origin)) (same_Some value item (sym found ∙ there.0)) goes) refl refl)
 
+  then-tested : 0 < task.done → (place number : ℕ) → asked ≡ ask.Empty place → number_at task.holdings place Pop ≡ Some number → ForSome name (λ s. IsLawful s → HoldsNext s ends)
+      → IsFrame G (with-steps G name task (task.done + 1) task.fuel) name (with_deeds ends (ends.deeds + 1)) (Ready local (answer.Flag false))
+  then-tested begun place number asks at told =
+      let has = usable place number Pop at in
+      let asking = subst (IsAsking G task.plan task.path task.done top local) asks (is-asking G name task ends local asked before is) in
+      let some = some-is has.origin (test-deed place has.origin asks has.may) (told s is.lent.named (lawful G task.plan is.plan.lists)) in
+      goes-on G name task ends local asked before is begun (answer.Flag false) (deed.Test has.origin) (with_deeds ends (ends.deeds + 1))
+      (tests-some G task.plan task.path task.done top local is.plan.lists place has.origin has.may asking some) refl refl
+
 -- what the frame asks its ends for is its next queue deed
 pub next-ask : {B L : Type 0} (G : Ghosts B L) (task : TaskView B L) (name : Option Script) (ends : LentEnds) (local : L) (asked : Ask L) (before : ℕ)
     → IsFrame G task name ends (Asking local asked before) → IsNextDeed name task.holdings ends asked
@@ -199,7 +230,8 @@ next-ask G task name ends local (ask.Push place value) before is = λ number at 
     subst (λ x. IsNextPush x ends number value) (same_Some (script G task.plan) s (sym is.lent.named ∙ named)) (next-push G task name ends local (ask.Push place value) before is place number value refl at)
 next-ask G task name ends local (ask.Pop place) before is = λ number at s named.
     subst (λ x. IsNextPop x ends number) (same_Some (script G task.plan) s (sym is.lent.named ∙ named)) (next-pop G task name ends local (ask.Pop place) before is place number refl at)
-next-ask G task name ends local (ask.Empty place) before is = tt
+next-ask G task name ends local (ask.Empty place) before is = λ number at s named.
+    subst (λ x. IsNextTest x ends number) (same_Some (script G task.plan) s (sym is.lent.named ∙ named)) (next-test G task name ends local (ask.Empty place) before is place number refl at)
 next-ask G task name ends local ask.NewQueue before is = tt
 next-ask G task name ends local (ask.NewObject value) before is = tt
 next-ask G task name ends local (ask.Spawn child) before is = tt
@@ -225,7 +257,10 @@ served-so G task name ends local (ask.Pop place) before said is begun says =
     (then-popped G task name ends local (ask.Pop place) before is begun place number.0 says.0.0 refl number.1 says.0.2)
 served-so G task name ends local (ask.Read place) before said is begun says = absurd says
 served-so G task name ends local (ask.Write place value) before said is begun says = absurd says
-served-so G task name ends local (ask.Empty place) before said is begun says = absurd says
+served-so G task name ends local (ask.Empty place) before said is begun says =
+    let number = has-some (number_at task.holdings place Pop) _ says.1 in
+    subst (λ a. IsFrame G (with-steps G name task (task.done + 1) task.fuel) name (with_deeds ends (ends.deeds + 1)) (Ready local a)) (sym says.0.0)
+    (then-tested G task name ends local (ask.Empty place) before is begun place number.0 refl number.1 says.0.1)
 served-so G task name ends local ask.NewQueue before said is begun says = absurd says
 served-so G task name ends local (ask.NewObject value) before said is begun says = absurd says
 served-so G task name ends local (ask.Spawn child) before said is begun says = absurd says

@@ -73,6 +73,7 @@ abbrev pub is_local : Deed → Bool
 is_local deed.Quiet = true
 is_local (deed.Push queue value) = true
 is_local (deed.Pop queue) = true
+is_local (deed.Test queue) = true
 is_local _ = false
 
 -- a task's steps from one number up to another are such

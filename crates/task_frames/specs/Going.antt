@@ -15,7 +15,7 @@ use Rattle.swan_model.specs.SerialStep.{number_at}
 use Rattle.swan_model.specs.Work.{ask_after, AreWork, local_after}
 use Rattle.swan_model.specs.Values.{COUNT_MOST}
 use Rattle.queues.specs.Asks.{LentEnds, has_end, with_deeds}
-use Rattle.queues.specs.Ends.{EndCounts, IsItemNext, IsNextPop, IsNextPush}
+use Rattle.queues.specs.Ends.{EndCounts, HoldsNext, IsItemNext, IsNextPop, IsNextPush, IsNextTest}
 use Rattle.task_frames.specs.declared.paused.Paused.{Paused}
 use Rattle.task_frames.specs.declared.paused.Paused.TheVariants.{AtCore, Budget, NoMemory}
 use Rattle.task_frames.specs.declared.row.AfterRow.{AfterRow}
@@ -29,55 +29,64 @@ use Rattle.task_frames.specs.Frames.{FrameView}
 abbrev pub Counts : Type 0
 Counts = ℕ → Bool → EndCounts
 
--- An end later on: what it found has not fallen, and each item that it moved cost it a look.
+-- An end later on: what it found has not fallen, and each item that it moved cost it a look, and so did each test that
+-- found an item.
 pub record IsLater (before after : EndCounts) : Type 0 where
   pub size : after.size ≡ before.size
   pub moved : before.moved ≤ after.moved
-  pub looks : before.looks + after.moved ≤ after.looks + before.moved
+  pub tested : before.tested ≤ after.tested
+  pub looks : before.looks + after.moved + after.tested ≤ after.looks + before.moved + before.tested
   pub found : before.found ≤ after.found
 
 -- each end that there is, later on
 abbrev pub AreLater : LentEnds → (before after : Counts) → Type 0
 AreLater ends before after = (queue : ℕ) (is_producer : Bool) → has_end ends queue is_producer ≡ true → IsLater (before queue is_producer) (after queue is_producer)
 
--- It has looked more often since then than it moved items, so a look moved none.
+-- It has looked more often since then than it moved items and found some by tests, so a look was for neither.
 abbrev pub HasLookedInVain : (before after : EndCounts) → Type 0
-HasLookedInVain before after = before.looks + after.moved < after.looks + before.moved
+HasLookedInVain before after = before.looks + after.moved + after.tested < after.looks + before.moved + before.tested
 
--- An end was found to take no more: a look since then moved nothing and its ring is full, or its count of items has no
+-- An end was found to take no more: a look since then was in vain and its ring is full, or its count of items has no
 -- next number.
 pub data WasFullSince (before after : EndCounts) : Type 0 where
   full : HasLookedInVain before after → after.moved ≡ after.found + after.size → WasFullSince before after
   counted : after.moved ≡ COUNT_MOST → WasFullSince before after
 
--- An end was found to have nothing: a look since then moved nothing, and all that was found is popped.
+-- An end was found to have nothing: a look since then was in vain, and all that was found is popped.
 pub record WasEmptySince (before after : EndCounts) : Type 0 where
   pub looked : HasLookedInVain before after
   pub empty : after.moved ≡ after.found
 
 module _ {L : Type 0} where
-  -- An ask that the ends didn't serve: it is for no work, push or pop, or for a queue that the frame may not use so, or the
-  -- ends have no such end, or this one was found not to serve it.
+  -- An ask that the ends didn't serve: it is for no work, push, pop or test, or for a queue that the frame may not use so, or
+  -- the ends have no such end, or this one was found not to serve it.
   abbrev pub IsNotServed : List Holding → LentEnds → (before after : Counts) → Ask L → Type 0
   IsNotServed holdings ends before after ask.Work = ⊥
   IsNotServed holdings ends before after (ask.Push place value) =
       ForSome (number_at holdings place Push) (λ queue. (has_end ends queue true ≡ false) ⊎ WasFullSince (before queue true) (after queue true))
   IsNotServed holdings ends before after (ask.Pop place) =
       ForSome (number_at holdings place Pop) (λ queue. (has_end ends queue false ≡ false) ⊎ WasEmptySince (before queue false) (after queue false))
+  IsNotServed holdings ends before after (ask.Empty place) =
+      ForSome (number_at holdings place Pop) (λ queue. (has_end ends queue false ≡ false) ⊎ WasEmptySince (before queue false) (after queue false))
   IsNotServed holdings ends before after _ = Unit {0}
 
-  -- Where the ask is for a push or a pop of what the frame may use so, that is the next queue deed by the script.
+  -- Where the ask is for a push, a pop or a test of what the frame may use so, that is the next queue deed by the script.
   abbrev pub IsNextDeed : Option Script → List Holding → LentEnds → Ask L → Type 0
   IsNextDeed name holdings ends (ask.Push place value) = ForSome (number_at holdings place Push) (λ queue. ForSome name (λ s. IsNextPush s ends queue value))
   IsNextDeed name holdings ends (ask.Pop place) = ForSome (number_at holdings place Pop) (λ queue. ForSome name (λ s. IsNextPop s ends queue))
+  IsNextDeed name holdings ends (ask.Empty place) = ForSome (number_at holdings place Pop) (λ queue. ForSome name (λ s. IsNextTest s ends queue))
   IsNextDeed name holdings ends _ = Unit {0}
 
-  -- The answer is that to an ask that was served: nothing for work and for a push, and for a pop the script's item.
+  -- The answer is that to an ask that was served: nothing for work and for a push, for a pop the script's item, and for a
+  -- test that the queue isn't empty, which the script says too.
   abbrev pub IsServedAnswer : Option Script → List Holding → LentEnds → Ask L → Answer → Type 0
   IsServedAnswer name holdings ends ask.Work said = said ≡ answer.Nothing
   IsServedAnswer name holdings ends (ask.Push place value) said = (said ≡ answer.Nothing) × IsSomeAnd (number_at holdings place Push) (λ queue. has_end ends queue true ≡ true)
   IsServedAnswer name holdings ends (ask.Pop place) said =
       ((item : Value) × (said ≡ answer.Item item) × ForSome name (λ s. IsLawful s → IsItemNext s ends item))
+      × IsSomeAnd (number_at holdings place Pop) (λ queue. has_end ends queue false ≡ true)
+  IsServedAnswer name holdings ends (ask.Empty place) said =
+      ((said ≡ answer.Flag false) × ForSome name (λ s. IsLawful s → HoldsNext s ends))
       × IsSomeAnd (number_at holdings place Pop) (λ queue. has_end ends queue false ≡ true)
   IsServedAnswer name holdings ends _ said = ⊥
 
@@ -85,6 +94,7 @@ module _ {L : Type 0} where
   abbrev pub deeds_of : Ask L → ℕ
   deeds_of (ask.Push place value) = 1
   deeds_of (ask.Pop place) = 1
+  deeds_of (ask.Empty place) = 1
   deeds_of _ = 0
 
 -- ---- steps of work in a row

@@ -329,12 +329,13 @@ impl<B: Body, Q: Queues> Frame<B, Q> {
         Paused::Budget(Steps::of(budget))
     }
 
-    /// Takes steps of the frame's task without the core: its own work, and pushes and pops that the frame's ends serve.
+    /// Takes steps of the frame's task without the core: its own work, pushes and pops that the frame's ends serve, and tests
+    /// for emptiness by which one of them finds an item; one that finds none needs the core.
     /// The first step of a frame always needs the core.
     ///
     /// - AtCore comes before the budget is reached, where the next step needs the core: it is the frame's first one, or
-    ///   the frame has no fuel for it, or it asks for something else than work, a push or a pop, or for a push or a pop
-    ///   that the frame may not do or that its ends didn't serve, as they found in this call. The frame's mark stands
+    ///   the frame has no fuel for it, or it asks for something else than work, a push, a pop or a test, or for one of
+    ///   these that the frame may not do or that its ends didn't serve, as they found in this call. The frame's mark stands
     ///   then, and after each other answer it doesn't.
     /// - Budget comes once as many steps as the budget were taken, at budget 0 too.
     /// - NoMemory is want of memory of the body. The frame has no local then, and each later call answers so too.

@@ -3,9 +3,9 @@
 //!
 //! A run out of order has many tasks under way at once. Each stands in a `Frame`: where it is in the tree of tasks, how
 //! many of its steps are done, its local and the answer to its last ask, its fuel, what it holds by place, and the ends of
-//! queues that it has with it. Whoever has a frame may call `run_local`: it takes the steps of the task's own work, and
-//! the pushes and pops that the frame's ends serve, without asking anyone. All other steps need the `Core`; so does
-//! the first step of each frame.
+//! queues that it has with it. Whoever has a frame may call `run_local`: it takes the steps of the task's own work, the
+//! pushes and pops that the frame's ends serve, and the tests by which they find an item, without asking anyone. All other
+//! steps need the `Core`; so does the first step of each frame.
 //!
 //! Promised by the type, wherever the frame is and whoever has it, up to want of memory (definition `IsFrame`):
 //!

@@ -10,9 +10,10 @@ use queues::LocalEnds;
 use std::mem;
 use swan_model::{Answer, Ask, Mode, Value};
 
-/// Serves an ask of a frame that holds this: work, and a push or a pop where the ends have an end for it
-/// that takes or gives an item now. None comes where the ask needs the core: the ask is as it was, though an end may have looked
-/// at its ring. Where it is served, the value of a push has been taken out of the ask. It takes no memory. `O(1)`.
+/// Serves an ask of a frame that holds this: work; a push or a pop where the ends have an end for it
+/// that takes or gives an item now; and a test where the ends have one to pop from that finds an item now. A test that finds
+/// none needs the core, since no end tells that a queue is empty. None comes where the ask needs the core: the ask is as it was, though an end
+/// may have looked at its ring. Where it is served, the value of a push has been taken out of the ask. It takes no memory. `O(1)`.
 #[inline(always)]
 pub fn serve<E: LocalEnds, L>(
     ends: &mut E,
@@ -54,6 +55,16 @@ pub fn serve<E: LocalEnds, L>(
                 Some(item) => Some(Answer::Item(item)),
                 None => None,
             },
+            None => None,
+        },
+        Ask::Empty(place) => match number_at(holdings, *place, Mode::Pop) {
+            Some(queue) => {
+                if ends.test(queue) {
+                    Some(Answer::Flag(false))
+                } else {
+                    None
+                }
+            }
             None => None,
         },
         _ => None,
