@@ -199,14 +199,14 @@ module _ {B L : Type 0} (G : Ghosts B L) (kept : KeptView) (mid : Mid B L) (has 
   pub queue-room : HasRoom kept.state
   queue-room =
       rights.room-for-queue G mid.task.plan has.core.sound (law G kept mid ask.NewQueue has) kept.reading mid.task.number has.of.frame (told G kept mid ask.NewQueue has)
-      mid.task.path mid.task.done has.is.alone.top has.of.path (done-now G kept mid ask.NewQueue has) has.is.alone.stands kept.state kept.turns has.core.queues
+      mid.task.path mid.task.done has.is.alone.top has.of.path (done-now G kept mid ask.NewQueue has) has.is.alone.stands kept.state has.core.queues
       (a G kept mid ask.NewQueue has) (a-live G kept mid ask.NewQueue has)
 
   pub queue-next : OnNext kept.name kept.state mid.task.number (λ s own. next_queue_deed s own.path own.deeds ≡ Some deed.MakeQueue)
   queue-next =
       for-next G kept mid ask.NewQueue has (λ s own. next_queue_deed s own.path own.deeds ≡ Some deed.MakeQueue)
       (rights.next-so G mid.task.plan has.core.sound (law G kept mid ask.NewQueue has) kept.reading mid.task.number has.of.frame (told G kept mid ask.NewQueue has)
-      mid.task.path mid.task.done has.is.alone.top has.of.path (done-now G kept mid ask.NewQueue has) has.is.alone.stands kept.state kept.turns has.core.queues
+      mid.task.path mid.task.done has.is.alone.top has.of.path (done-now G kept mid ask.NewQueue has) has.is.alone.stands kept.state has.core.queues
       (a G kept mid ask.NewQueue has) (a-live G kept mid ask.NewQueue has) deed.MakeQueue queue-gets.deed refl)
 
   module _ (then_live : NumberedFrames) where
@@ -236,7 +236,7 @@ module _ {B L : Type 0} (G : Ghosts B L) (kept : KeptView) (mid : Mid B L) (has 
           record {
             sound = has.core.sound;
             name = has.core.name;
-            queues = queues.created s lawful r kept.state kept.turns has.core.queues n mid.task.path mid.task.done known_is act (after_create kept.state own) queue-gets.deed has.is.alone.stands.left refl;
+            queues = queues.created s lawful r kept.state has.core.queues n mid.task.path mid.task.done known_is act (after_create kept.state own) queue-gets.deed has.is.alone.stands.left refl;
             objects = objects.queue-made s lawful r kept.versions kept.live kept.objects has.core.objects n mid.task.path mid.task.done known_is has.of.frame has.of.live then_live
                 (record { mode = PushPop; number = length kept.state.makers }) (r.queues ++ o ∷ []) queue-gets.deed has.is.alone.stands.left refl begun.ready only;
             frames = live.made-queue G mid.task.plan r kept.state kept.live kept.frames has.core.frames n has.of.frame has.of.live own own_live then_live has.is.plan.lists has.core.queues.tree act
@@ -325,7 +325,7 @@ module _ {B L : Type 0} (G : Ghosts B L) (kept : KeptView) (mid : Mid B L) (valu
           record {
             sound = has.core.sound;
             name = has.core.name;
-            queues = queues.others-over s lawful r kept.state kept.turns has.core.queues n mid.task.path mid.task.done known_is (deed.MakeObject value) (r.objects ++ o ∷ []) object-gets.deed refl then.left;
+            queues = queues.others-over s lawful r kept.state has.core.queues n mid.task.path mid.task.done known_is (deed.MakeObject value) (r.objects ++ o ∷ []) object-gets.deed refl then.left;
             objects = objects.created s lawful r kept.versions kept.live kept.objects has.core.objects n mid.task.path mid.task.done known_is has.of.frame has.of.live then_live
                 value (objects_after_create kept.versions n (length mid.task.holdings) value) object-gets.deed has.is.alone.stands.left
                 (ap (λ hs. objects_after_create kept.versions n (length hs) value) (sym has.of.holdings)) begun.ready only;

@@ -28,7 +28,6 @@ use Rattle.swan_model.specs.SerialTime.{time, times}
 use Rattle.swan_model.specs.Told.{count, deed_at, pushes, taken}
 use Rattle.swan_model.specs.TrueFrames.{effect_at}
 use Rattle.swan_model.specs.Versions.{objects_after_finish}
-use Rattle.pop_order.specs.Frames.{without}
 use Rattle.queues.specs.Asks.{IsOnTurn, MayDo, MayJoin, MayLook, MayUse, OnActive, OnNext}
 use Rattle.swan_model.specs.Readings.{gone_on_by}
 use Rattle.queues.specs.Tells.{FindsItem, FindsNone, IsCause, OnQueue}
@@ -142,7 +141,7 @@ module _ {B L : Type 0} (G : Ghosts B L) (kept : KeptView) (mid : Mid B L) (asks
     made : queue_origin s kept.state queue ≡ Some origin
     made =
         rights.queue-so G plan has.core.sound law kept.reading n has.of.frame told mid.task.path mid.task.done top has.of.path done-now has.is.alone.stands
-        kept.state kept.turns has.core.queues a a-live place queue mode origin used (held place queue mode at) kind_is
+        kept.state has.core.queues a a-live place queue mode origin used (held place queue mode at) kind_is
 
     -- what the queues tell of it
     pub on-queue : (Says : Script → Origin → Type 0) → OnQueue kept.name kept.state queue Says → Says s origin
@@ -151,7 +150,7 @@ module _ {B L : Type 0} (G : Ghosts B L) (kept : KeptView) (mid : Mid B L) (asks
   abbrev pub may-do : MayDo kept.state n
   may-do =
       rights.may-do G plan has.core.sound law kept.reading n has.of.frame told mid.task.path mid.task.done top has.of.path done-now has.is.alone.stands
-      kept.state kept.turns has.core.queues a a-live a-back
+      kept.state has.core.queues a a-live a-back
 
 -- ---- a push
 
@@ -169,7 +168,7 @@ module _ {B L : Type 0} (G : Ghosts B L) (kept : KeptView) (mid : Mid B L) (plac
       let own_a = a G kept mid (ask.Push place value) has in
       let it =
       rights.may-push G mid.task.plan has.core.sound (law G kept mid (ask.Push place value) has) kept.reading mid.task.number has.of.frame (told G kept mid (ask.Push place value) has)
-      mid.task.path mid.task.done has.is.alone.top has.of.path (done-now G kept mid (ask.Push place value) has) has.is.alone.stands kept.state kept.turns has.core.queues
+      mid.task.path mid.task.done has.is.alone.top has.of.path (done-now G kept mid (ask.Push place value) has) has.is.alone.stands kept.state has.core.queues
       own_a (a-live G kept mid (ask.Push place value) has) place queue value push-used.0 push-used.1 (held G kept mid (ask.Push place value) has place queue Push at)
       push-goes.deed (a-back G kept mid (ask.Push place value) has) in
       (it.0, for-next G kept mid (ask.Push place value) has (λ s own. IsNextAbout (λ o. deed.Push o value) s kept.state own queue) it.1)
@@ -196,7 +195,7 @@ module _ {B L : Type 0} (G : Ghosts B L) (kept : KeptView) (mid : Mid B L) (plac
   pop-may =
       let it =
       rights.may-pop G mid.task.plan has.core.sound (law G kept mid (ask.Pop place) has) kept.reading mid.task.number has.of.frame (told G kept mid (ask.Pop place) has)
-      mid.task.path mid.task.done has.is.alone.top has.of.path (done-now G kept mid (ask.Pop place) has) has.is.alone.stands kept.state kept.turns has.core.queues
+      mid.task.path mid.task.done has.is.alone.top has.of.path (done-now G kept mid (ask.Pop place) has) has.is.alone.stands kept.state has.core.queues
       (a G kept mid (ask.Pop place) has) (a-live G kept mid (ask.Pop place) has) place queue pop-used.0 pop-used.1 (held G kept mid (ask.Pop place) has place queue Pop at)
       popped-deed (a-back G kept mid (ask.Pop place) has) in
       (it.0, for-next G kept mid (ask.Pop place) has (λ s own. IsNextAbout deed.Pop s kept.state own queue) it.1)
@@ -204,7 +203,7 @@ module _ {B L : Type 0} (G : Ghosts B L) (kept : KeptView) (mid : Mid B L) (plac
   pub look-may : MayLook kept.state mid.task.number queue
   look-may =
       rights.may-look G mid.task.plan has.core.sound (law G kept mid (ask.Pop place) has) kept.reading mid.task.number has.of.frame (told G kept mid (ask.Pop place) has)
-      mid.task.path mid.task.done has.is.alone.top has.of.path (done-now G kept mid (ask.Pop place) has) has.is.alone.stands kept.state kept.turns has.core.queues
+      mid.task.path mid.task.done has.is.alone.top has.of.path (done-now G kept mid (ask.Pop place) has) has.is.alone.stands kept.state has.core.queues
       (a G kept mid (ask.Pop place) has) (a-live G kept mid (ask.Pop place) has) place queue pop-used.0 pop-used.1 (held G kept mid (ask.Pop place) has place queue Pop at)
       popped-deed (a-back G kept mid (ask.Pop place) has)
 
@@ -227,9 +226,9 @@ module _ {B L : Type 0} (G : Ghosts B L) (kept : KeptView) (mid : Mid B L) (plac
       let there = a-live G kept mid (ask.Pop place) has in
       let it = on-queue G kept mid (ask.Pop place) has place queue pop-used.0 Pop pop-used.1 at refl (λ s origin. (next_item s mine origin ≡ Some item) × FindsItem mine s origin) (answers mine there) in
       let left = rights.item-left G mid.task.plan has.core.sound (law G kept mid (ask.Pop place) has) kept.reading mid.task.number has.of.frame (told G kept mid (ask.Pop place) has)
-      mid.task.path mid.task.done has.is.alone.top has.of.path (done-now G kept mid (ask.Pop place) has) has.is.alone.stands kept.state kept.turns has.core.queues mine there pop-used.0 it.1 in
+      mid.task.path mid.task.done has.is.alone.top has.of.path (done-now G kept mid (ask.Pop place) has) has.is.alone.stands kept.state has.core.queues mine there pop-used.0 it.1 in
       let first = rights.item-so G mid.task.plan has.core.sound (law G kept mid (ask.Pop place) has) kept.reading mid.task.number has.of.frame (told G kept mid (ask.Pop place) has)
-      mid.task.path mid.task.done has.is.alone.top has.of.path (done-now G kept mid (ask.Pop place) has) has.is.alone.stands kept.state kept.turns has.core.queues mine there pop-used.0 item it.0 in
+      mid.task.path mid.task.done has.is.alone.top has.of.path (done-now G kept mid (ask.Pop place) has) has.is.alone.stands kept.state has.core.queues mine there pop-used.0 item it.0 in
       some-and (slice_get (pushes s pop-used.0) (taken s pop-used.0 now))
       (λ value. GoesOn G mid.task.plan mid.task.path mid.task.done has.is.alone.top mid.local (answer.Item value) (deed.Pop pop-used.0))
       (GoesOn G mid.task.plan mid.task.path mid.task.done has.is.alone.top mid.local (answer.Item item) (deed.Pop pop-used.0))
@@ -256,7 +255,7 @@ module _ {B L : Type 0} (G : Ghosts B L) (kept : KeptView) (mid : Mid B L) (plac
       let it = on-queue G kept mid (ask.Pop place) has place queue pop-used.0 Pop pop-used.1 at refl (FindsNone mine) (none mine there) in
       pops-none G mid.task.plan mid.task.path mid.task.done has.is.alone.top mid.local has.is.plan.lists place pop-used.0 pop-used.1 (asked G kept mid (ask.Pop place) has)
       (rights.none-left G mid.task.plan has.core.sound (law G kept mid (ask.Pop place) has) kept.reading mid.task.number has.of.frame (told G kept mid (ask.Pop place) has)
-      mid.task.path mid.task.done has.is.alone.top has.of.path (done-now G kept mid (ask.Pop place) has) has.is.alone.stands kept.state kept.turns has.core.queues mine there pop-used.0 it)
+      mid.task.path mid.task.done has.is.alone.top has.of.path (done-now G kept mid (ask.Pop place) has) has.is.alone.stands kept.state has.core.queues mine there pop-used.0 it)
 
   pub none-last : OnActive kept.state mid.task.number (λ own. OnQueue kept.name kept.state queue (FindsNone own)) → IsLast G mid.task
   none-last none = ends_last G mid.task.plan mid.task.path mid.task.done has.is.alone.top has.is.alone.stands (ap is_end (none-faults none).effect)
@@ -265,7 +264,7 @@ module _ {B L : Type 0} (G : Ghosts B L) (kept : KeptView) (mid : Mid B L) (plac
     -- once the queues have counted the pop
     pub dry-join : MayJoin (after_deed kept.state mid.task.number) mid.task.number
     dry-join =
-        ending.may-join_dry G mid.task.plan (law G kept mid (ask.Pop place) has) kept.reading kept.state kept.turns kept.live kept.frames has.core.queues has.core.frames
+        ending.may-join_dry G mid.task.plan (law G kept mid (ask.Pop place) has) kept.reading kept.state kept.live kept.frames has.core.queues has.core.frames
         mid.task.number has.of.frame has.of.live alone (a G kept mid (ask.Pop place) has) (a-live G kept mid (ask.Pop place) has) (a-back G kept mid (ask.Pop place) has)
 
     pub dry-turn : IsOnTurn kept.name (after_deed kept.state mid.task.number) mid.task.number
@@ -289,7 +288,7 @@ module _ {B L : Type 0} (G : Ghosts B L) (kept : KeptView) (mid : Mid B L) (plac
           ap (λ k. k + 1) (done-now G kept mid (ask.Pop place) has) ∙ none-last none ∙ ap (λ q. length (times s q)) (sym has.of.path) in
           subst (λ y. next_queue_deed y b.path b.deeds ≡ None) (same_Some s x (sym has.core.name ∙ is))
           (subst (λ (y : ActiveFrame). next_queue_deed s y.path y.deeds ≡ None) one
-          (ending.over-next_dry G mid.task.plan (law G kept mid (ask.Pop place) has) kept.reading kept.state kept.turns kept.live kept.frames has.core.queues has.core.frames
+          (ending.over-next_dry G mid.task.plan (law G kept mid (ask.Pop place) has) kept.reading kept.state kept.live kept.frames has.core.queues has.core.frames
           mid.task.number f has.of.live alone mine (a-live G kept mid (ask.Pop place) has) pop-used.0 does last))
 
       pub dry-ends : (after : KeptView) (fault : Fault) (between : NumberedFrames) → HasOneFailed kept.live between has.of.frame.parent → IsOnlyLive between after.live mid.task.number None
@@ -298,7 +297,6 @@ module _ {B L : Type 0} (G : Ghosts B L) (kept : KeptView) (mid : Mid B L) (plac
             versions = objects_after_finish kept.versions mid.task.number;
             reading = gone_on_by kept.reading mid.task.number 1;
             live = after.live;
-            turns = without kept.turns mid.task.number;
             faults = kept.faults ++ fault ∷ [];
           }
           → fault.kind ≡ kind.PopEmpty → fault.path ≡ mid.task.path → fault.place ≡ mid.at → IsStep G kept after mid.task step.Ended
@@ -323,12 +321,11 @@ module _ {B L : Type 0} (G : Ghosts B L) (kept : KeptView) (mid : Mid B L) (plac
             versions = objects_after_finish kept.versions n;
             reading = gone_on_by r n 1;
             live = after.live;
-            turns = without kept.turns n;
             faults = kept.faults ++ fault ∷ [];
           })
           settled between given (alike-failed G kept (asking mid (ask.Pop place)) has begun (none-last none) between one) only refl refl refl refl refl alone
           (record { changed = gone.changed; others = λ m other. gone.others m other ∙ popped.others m other })
-          (queues.finished-dry s lawful_is r kept.state kept.turns has.core.queues n mid.task.path mid.task.done known_is pop-used.0 then_state (without kept.turns n) popped-deed (none-last none) act dry-join refl refl)
+          (queues.finished-dry s lawful_is r kept.state has.core.queues n mid.task.path mid.task.done known_is pop-used.0 then_state popped-deed (none-last none) act dry-join refl)
           (live.leaves-dry G mid.task.plan r kept.state between kept.frames (live.as-before G mid.task.plan r kept.state kept.live kept.frames has.core.frames between given) has.core.queues.tree n (a G kept mid (ask.Pop place) has) then_state after.live
           (a-live G kept mid (ask.Pop place) has) act dry-join refl only)
           (booked.faulted G mid.task.plan r n mid.task.path mid.task.done known_is has.is.alone.top has.is.alone.stands (none-last none) has.core.queues.fit.tasks
@@ -368,7 +365,7 @@ module _ {B L : Type 0} (G : Ghosts B L) (kept : KeptView) (mid : Mid B L) (plac
   test-may =
       let it =
       rights.may-test G mid.task.plan has.core.sound (law G kept mid (ask.Empty place) has) kept.reading mid.task.number has.of.frame (told G kept mid (ask.Empty place) has)
-      mid.task.path mid.task.done has.is.alone.top has.of.path (done-now G kept mid (ask.Empty place) has) has.is.alone.stands kept.state kept.turns has.core.queues
+      mid.task.path mid.task.done has.is.alone.top has.of.path (done-now G kept mid (ask.Empty place) has) has.is.alone.stands kept.state has.core.queues
       (a G kept mid (ask.Empty place) has) (a-live G kept mid (ask.Empty place) has) place queue test-used.0 test-used.1 (held G kept mid (ask.Empty place) has place queue Pop at)
       tested-deed (a-back G kept mid (ask.Empty place) has) in
       (it.0, for-next G kept mid (ask.Empty place) has (λ s own. IsNextAbout deed.Test s kept.state own queue) it.1)
@@ -379,13 +376,13 @@ module _ {B L : Type 0} (G : Ghosts B L) (kept : KeptView) (mid : Mid B L) (plac
       let there = a-live G kept mid (ask.Empty place) has in
       let it = on-queue G kept mid (ask.Empty place) has place queue test-used.0 Pop test-used.1 at refl (FindsItem mine) (some mine there) in
       test-some (rights.item-left G mid.task.plan has.core.sound (law G kept mid (ask.Empty place) has) kept.reading mid.task.number has.of.frame (told G kept mid (ask.Empty place) has)
-      mid.task.path mid.task.done has.is.alone.top has.of.path (done-now G kept mid (ask.Empty place) has) has.is.alone.stands kept.state kept.turns has.core.queues mine there test-used.0 it)
+      mid.task.path mid.task.done has.is.alone.top has.of.path (done-now G kept mid (ask.Empty place) has) has.is.alone.stands kept.state has.core.queues mine there test-used.0 it)
   test-goes true none =
       let mine = a G kept mid (ask.Empty place) has in
       let there = a-live G kept mid (ask.Empty place) has in
       let it = on-queue G kept mid (ask.Empty place) has place queue test-used.0 Pop test-used.1 at refl (FindsNone mine) (none mine there) in
       test-none (rights.none-left G mid.task.plan has.core.sound (law G kept mid (ask.Empty place) has) kept.reading mid.task.number has.of.frame (told G kept mid (ask.Empty place) has)
-      mid.task.path mid.task.done has.is.alone.top has.of.path (done-now G kept mid (ask.Empty place) has) has.is.alone.stands kept.state kept.turns has.core.queues mine there test-used.0 it)
+      mid.task.path mid.task.done has.is.alone.top has.of.path (done-now G kept mid (ask.Empty place) has) has.is.alone.stands kept.state has.core.queues mine there test-used.0 it)
 
   pub test-steps : MayBegin kept mid.task.number → (empty : Bool) → IsToldOf kept mid.task.number queue empty
       → (after : KeptView) (next : FrameAtCoreView B L) → next ≡ record { task = one_on mid.task; stage = Ready mid.local (answer.Flag empty) }

@@ -87,8 +87,7 @@ module _ {B L : Type 0} (G : Ghosts B L) (plan : Plan B L) (sound : IsPlan plan)
         record {
           sound = sound;
           name = first.name;
-          queues = subst (λ t. AreQueues s kept.reading kept.state t) (sym first.turns)
-              (subst (λ r. AreQueues s r kept.state []) reading-is (queues-open G plan sound lawful-is kept.state kept.versions kept.live first-queues first-objects first.live.changed none));
+          queues = subst (λ r. AreQueues s r kept.state) reading-is (queues-open G plan sound lawful-is kept.state kept.versions kept.live first-queues first-objects first.live.changed none);
           objects = subst (AreObjects s kept.reading kept.versions kept.live) (sym first.count)
               (subst (λ r. AreObjects s r kept.versions kept.live (length s.objects)) reading-is (objects-open G plan sound lawful-is kept.state kept.versions kept.live first-queues first-objects first.live.changed none));
           frames = subst (AreFrames G plan kept.reading kept.state kept.live) (sym first.frames)

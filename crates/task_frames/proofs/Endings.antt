@@ -13,7 +13,6 @@ use Rattle.swan_model.specs.SerialStep.{ends, faults}
 use Rattle.swan_model.specs.TrueFrames.{effect_at}
 use Rattle.swan_model.specs.Versions.{IsSettled, objects_after_finish}
 use Rattle.swan_model.specs.VersionsFollow.{is_object_deed}
-use Rattle.pop_order.specs.Frames.{without}
 use Rattle.queues.specs.Asks.{MayJoin}
 use Rattle.swan_model.specs.Readings.{gone_on_by}
 use Rattle.queues.specs.Tree.{IsOnlyFrame}
@@ -49,7 +48,7 @@ module _ {B L : Type 0} (G : Ghosts B L) (kept : KeptView) (frame : FrameAtCoreV
   pub child-before : (child : ℕ) → IsOldestChild kept.live task.number child → IsLiveBefore kept.live task.path child
   child-before child is =
       subst (λ path. IsLiveBefore kept.live path child) has.of.path
-      (waiting.oldest-live G task.plan (lawful G kept frame has) kept.reading kept.state kept.turns kept.live kept.frames has.core.queues has.core.frames task.number has.of.frame has.of.live child is)
+      (waiting.oldest-live G task.plan (lawful G kept frame has) kept.reading kept.state kept.live kept.frames has.core.queues has.core.frames task.number has.of.frame has.of.live child is)
 
   pub waits-child : (child : ℕ) → IsOldestChild kept.live task.number child → IsLast G task → IsStep G kept kept task (step.Waits frame (wait.Child child))
   waits-child child is last = (has, refl, refl, (is, inr last), child-before child is)
@@ -65,7 +64,7 @@ module _ {B L : Type 0} (G : Ghosts B L) (kept : KeptView) (frame : FrameAtCoreV
     module _ (does : Deed) (is : deed_now G task ≡ does) (no_object : is_object_deed does ≡ false) (no_spawn : is_spawn does ≡ false) (after : KeptView) (settled : IsSettled kept.versions task.number)
         (between : NumberedFrames) (given : AreGivenSo kept.live between) (alike : (other : ℕ) → ¬ IsLiveChild kept.live other task.number → live_at between other ≡ live_at kept.live other) (only : IsOnlyLive between after.live task.number None) (name : after.name ≡ kept.name) (reading : after.reading ≡ gone_on_by kept.reading task.number 1) (count : after.frames ≡ kept.frames) (made : after.objects ≡ kept.objects)
         (ended : after.versions ≡ objects_after_finish kept.versions task.number) (alone : HasNoLiveChild kept.live task.number) (gone : IsOnlyFrame kept.state after.state task.number None)
-        (queues_are : AreQueues s (gone_on_by kept.reading task.number 1) after.state after.turns)
+        (queues_are : AreQueues s (gone_on_by kept.reading task.number 1) after.state)
         (frames_are : AreFrames G task.plan (gone_on_by kept.reading task.number 1) after.state after.live kept.frames)
         (booked_are : AreBooked G task.plan (gone_on_by kept.reading task.number 1) after.faults)
         (counted_are : AreCounted s after.live after.faults) where
@@ -77,7 +76,7 @@ module _ {B L : Type 0} (G : Ghosts B L) (kept : KeptView) (frame : FrameAtCoreV
       core-ended = record {
         sound = has.core.sound;
         name = name ∙ has.core.name;
-        queues = subst (λ r. AreQueues s r after.state after.turns) (sym reading) queues_are;
+        queues = subst (λ r. AreQueues s r after.state) (sym reading) queues_are;
         objects = subst (λ r. AreObjects s r after.versions after.live after.objects) (sym reading)
             (subst (AreObjects s (gone_on_by kept.reading task.number 1) after.versions after.live) (sym made)
             (objects.finished s (lawful G kept frame has) kept.reading kept.versions between kept.objects
@@ -122,7 +121,7 @@ module _ {B L : Type 0} (G : Ghosts B L) (kept : KeptView) (frame : FrameAtCoreV
         ∙ never-failed kept.faults task.path (booked.fresh G task.plan kept.reading task.number task.path task.done (known G kept frame has) has.core.queues.fit.tasks kept.faults has.core.booked has.is.alone.stands.left))
         refl one only
         (λ m i above at own_path.
-        waiting.parent-is G task.plan (lawful G kept frame has) kept.reading kept.state kept.turns kept.live kept.frames has.core.queues has.core.frames m above at task.number i has.of.frame has.of.live own_path)
+        waiting.parent-is G task.plan (lawful G kept frame has) kept.reading kept.state kept.live kept.frames has.core.queues has.core.frames m above at task.number i has.of.frame has.of.live own_path)
 
     -- where it fails, all but the frame above are as before
     pub alike-failed : (between : NumberedFrames) → HasOneFailed kept.live between has.of.frame.parent → (other : ℕ) → ¬ IsLiveChild kept.live other task.number → live_at between other ≡ live_at kept.live other
@@ -135,7 +134,6 @@ module _ {B L : Type 0} (G : Ghosts B L) (kept : KeptView) (frame : FrameAtCoreV
         versions = objects_after_finish kept.versions task.number;
         reading = gone_on_by kept.reading task.number 1;
         live = after.live;
-        turns = without kept.turns task.number;
       }
           → deed_now G task ≡ deed.Quiet → effect_at G task.plan task.path task.done has.is.alone.top ≡ ends → IsStep G kept after task step.Ended
       ends-quietly only is quiet effect =
@@ -146,11 +144,10 @@ module _ {B L : Type 0} (G : Ghosts B L) (kept : KeptView) (frame : FrameAtCoreV
             versions = objects_after_finish kept.versions task.number;
             reading = gone_on_by kept.reading task.number 1;
             live = after.live;
-            turns = without kept.turns task.number;
           })
           settled kept.live (λ m. refl) (λ m none. refl) only refl refl refl refl refl (no-child may) (one_gone kept.state task.number)
-          (queues.finished s (lawful G kept frame has) kept.reading kept.state kept.turns has.core.queues task.number task.path task.done (known G kept frame has) deed.Quiet
-          (after_finish kept.state task.number) (without kept.turns task.number) quiet refl last may refl refl)
+          (queues.finished s (lawful G kept frame has) kept.reading kept.state has.core.queues task.number task.path task.done (known G kept frame has) deed.Quiet
+          (after_finish kept.state task.number) quiet refl last may refl)
           (live.leaves-finish G task.plan kept.reading kept.state kept.live kept.frames has.core.frames has.core.queues.tree task.number (after_finish kept.state task.number) after.live may refl only)
           (booked.ended G task.plan kept.reading task.number task.path task.done (known G kept frame has) has.is.alone.top has.is.alone.stands last kept.faults effect has.core.booked)
           (counted.ended s kept.live kept.faults has.core.counted after.live task.number only))
@@ -161,7 +158,6 @@ module _ {B L : Type 0} (G : Ghosts B L) (kept : KeptView) (frame : FrameAtCoreV
         versions = objects_after_finish kept.versions task.number;
         reading = gone_on_by kept.reading task.number 1;
         live = after.live;
-        turns = without kept.turns task.number;
         faults = kept.faults ++ fault ∷ [];
       }
           → deed_now G task ≡ deed.Quiet → effect_at G task.plan task.path task.done has.is.alone.top ≡ faults fault.kind → fault.path ≡ task.path
@@ -175,12 +171,11 @@ module _ {B L : Type 0} (G : Ghosts B L) (kept : KeptView) (frame : FrameAtCoreV
             versions = objects_after_finish kept.versions task.number;
             reading = gone_on_by kept.reading task.number 1;
             live = after.live;
-            turns = without kept.turns task.number;
             faults = kept.faults ++ fault ∷ [];
           })
           settled between given (alike-failed between one) only refl refl refl refl refl (no-child may) (one_gone kept.state task.number)
-          (queues.finished s (lawful G kept frame has) kept.reading kept.state kept.turns has.core.queues task.number task.path task.done (known G kept frame has) deed.Quiet
-          (after_finish kept.state task.number) (without kept.turns task.number) quiet refl last may refl refl)
+          (queues.finished s (lawful G kept frame has) kept.reading kept.state has.core.queues task.number task.path task.done (known G kept frame has) deed.Quiet
+          (after_finish kept.state task.number) quiet refl last may refl)
           (live.leaves-finish G task.plan kept.reading kept.state between kept.frames (live.as-before G task.plan kept.reading kept.state kept.live kept.frames has.core.frames between given)
           has.core.queues.tree task.number (after_finish kept.state task.number) after.live may refl only)
           (booked.faulted G task.plan kept.reading task.number task.path task.done (known G kept frame has) has.is.alone.top has.is.alone.stands last has.core.queues.fit.tasks

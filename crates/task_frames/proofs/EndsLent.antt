@@ -13,7 +13,6 @@ use Rattle.swan_model.specs.Segments.{segment_queue}
 use Rattle.swan_model.specs.SerialState.{Holding}
 use Rattle.swan_model.specs.SerialTime.{Reading}
 use Rattle.swan_model.specs.TrueFrames.{StandsAt, give_in, gives_at}
-use Rattle.pop_order.specs.Frames.{Frames}
 use Rattle.queues.specs.Asks.{LentEnds}
 use Rattle.queues.specs.Reads.{deeds_among}
 use Rattle.queues.specs.Tells.{OnQueue}
@@ -24,7 +23,7 @@ use Rattle.task_frames.specs.Frames.{AreEndsOf, TaskView}
 use Rattle.task_frames.specs.Records.{LiveFrame}
 use Rattle.task_frames.proofs.Names.{name-at}
 
-module _ {B L : Type 0} (G : Ghosts B L) (task : TaskView B L) (lawful : IsLawful (script G task.plan)) (r : Reading) (state : QueueState) (turns : Frames) (queues : AreQueues (script G task.plan) r state turns)
+module _ {B L : Type 0} (G : Ghosts B L) (task : TaskView B L) (lawful : IsLawful (script G task.plan)) (r : Reading) (state : QueueState) (queues : AreQueues (script G task.plan) r state)
     (f : LiveFrame) (told : IsAsRead G task.plan r task.number f) (path : f.path ≡ task.path) (done : f.done ≡ task.done) (since : task.since ≡ task.done) (holdings : f.holdings ≡ task.holdings) where
   abbrev s : Script
   s = script G task.plan

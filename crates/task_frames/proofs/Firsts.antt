@@ -6,12 +6,10 @@ use Rattle.swan_model.specs.declared.rights.Mode.TheVariants.{In}
 use Rattle.swan_model.specs.QueueState.{ActiveFrame, IsPoppingChild, active}
 use Rattle.swan_model.specs.Rights.{allows}
 use Rattle.swan_model.specs.Versions.{Awaits, Placed, owed, placed_at}
-use Rattle.pop_order.specs.Turns.{Blocks}
-use Rattle.queues.specs.Tells.{IsCause}
+use Rattle.queues.specs.Tells.{IsBlockedBy, IsCause}
 use Rattle.queues.specs.declared.answers.WaitFor.{WaitFor}
 use Rattle.queues.specs.declared.answers.WaitFor.TheVariants as wait
 use Rattle.queues.proofs.Frames.{active_number}
-use Rattle.queues.proofs.TurnsTold.{has_turn}
 use Rattle.swan_model.specs.declared.script.Deed.TheVariants as deed
 use Rattle.task_frames.specs.declared.step.Step.TheVariants as step
 use Rattle.task_frames.specs.Cores.{FrameAtCoreView, HasIt, KeptView, MayBegin}
@@ -43,9 +41,9 @@ module _ {B L : Type 0} (G : Ghosts B L) (kept : KeptView) (frame : FrameAtCoreV
     ready = has.core.objects.begun frame.task.number f has.of.live (let same = done-is G kept frame has in omega (arith, same, some));
   }
 
-  pub may-begin : WaitsForNone kept.versions frame.task.number → ((older : ℕ) → ¬ Blocks kept.turns frame.task.number older) → MayBegin kept frame.task.number
+  pub may-begin : WaitsForNone kept.versions frame.task.number → ((older : ℕ) → ¬ IsBlockedBy kept.state frame.task.number older) → MayBegin kept frame.task.number
   may-begin ready free = record {
-    turn = λ a live. has_turn kept.state has.core.queues.tree kept.turns has.core.queues.turns_are frame.task.number a live free;
+    turn = λ a live older by. free older (record { frame = a; live = live; by = by });
     ready = ready;
   }
 
@@ -53,23 +51,23 @@ module _ {B L : Type 0} (G : Ghosts B L) (kept : KeptView) (frame : FrameAtCoreV
       → WaitsForVersion G kept frame m
   waits-awaited done m same not_so place awaits may = at_first place (sym same ∙ not-less done not_so) awaits may
 
-  pub waits-blocked : (done m : ℕ) → done ≡ frame.task.done → nat_lt 0 done ≡ false → WaitsForNone kept.versions frame.task.number → IsFirstToBlock kept.turns frame.task.number m
+  pub waits-blocked : (done m : ℕ) → done ≡ frame.task.done → nat_lt 0 done ≡ false → WaitsForNone kept.versions frame.task.number → IsFirstToBlock kept.state frame.task.number m
       → WaitsForTurn G kept frame m
   waits-blocked done m same not_so ready first = at_start (sym same ∙ not-less done not_so) ready first
 
   pub awaited-before : (m place : ℕ) → Awaits kept.versions frame.task.number place m → IsLiveBefore kept.live frame.task.path m
   awaited-before m place awaits =
-      live-before m (waiting.awaited-live G frame.task.plan (lawful G kept frame has) kept.reading kept.state kept.turns kept.live kept.frames has.core.queues has.core.frames frame.task.number f has.of.live
+      live-before m (waiting.awaited-live G frame.task.plan (lawful G kept frame has) kept.reading kept.state kept.live kept.frames has.core.queues has.core.frames frame.task.number f has.of.live
       kept.versions kept.objects has.core.objects m place awaits)
 
   pub owed-before : (m place : ℕ) (object : Placed) → placed_at kept.versions frame.task.number place ≡ Some object → object.present ≡ owed m → IsLiveBefore kept.live frame.task.path m
   owed-before m place object stands owes =
-      live-before m (waiting.owner-live G frame.task.plan (lawful G kept frame has) kept.reading kept.state kept.turns kept.live kept.frames has.core.queues has.core.frames frame.task.number f has.of.live
+      live-before m (waiting.owner-live G frame.task.plan (lawful G kept frame has) kept.reading kept.state kept.live kept.frames has.core.queues has.core.frames frame.task.number f has.of.live
       kept.versions kept.objects has.core.objects m place object stands (inl owes))
 
-  pub blocked-before : (m : ℕ) → Blocks kept.turns frame.task.number m → IsLiveBefore kept.live frame.task.path m
+  pub blocked-before : (m : ℕ) → IsBlockedBy kept.state frame.task.number m → IsLiveBefore kept.live frame.task.path m
   blocked-before m blocks =
-      live-before m (waiting.blocker-live G frame.task.plan (lawful G kept frame has) kept.reading kept.state kept.turns kept.live kept.frames has.core.queues has.core.frames frame.task.number f has.of.live m blocks)
+      live-before m (waiting.blocker-live G frame.task.plan (lawful G kept frame has) kept.reading kept.state kept.live kept.frames has.core.queues has.core.frames frame.task.number f has.of.live m blocks)
 
   -- ---- at a queue
 
@@ -83,10 +81,10 @@ module _ {B L : Type 0} (G : Ghosts B L) (kept : KeptView) (frame : FrameAtCoreV
   cause-before queue (wait.Child m) cause = absurd cause
   cause-before queue (wait.Version m) cause = absurd cause
   cause-before queue (wait.PopTurn m) cause =
-      live-before m (waiting.popping-live G frame.task.plan (lawful G kept frame has) kept.reading kept.state kept.turns kept.live kept.frames has.core.queues has.core.frames frame.task.number f has.of.live queue m
+      live-before m (waiting.popping-live G frame.task.plan (lawful G kept frame has) kept.reading kept.state kept.live kept.frames has.core.queues has.core.frames frame.task.number f has.of.live queue m
       (subst (λ n. IsPoppingChild kept.state n queue m) (active_number kept.state frame.task.number a a-live) cause.0))
   cause-before queue (wait.Pusher m) cause =
-      live-before m (waiting.pusher-live G frame.task.plan (lawful G kept frame has) kept.reading kept.state kept.turns kept.live kept.frames has.core.queues has.core.frames frame.task.number f has.of.live a a-live queue m cause.1.is)
+      live-before m (waiting.pusher-live G frame.task.plan (lawful G kept frame has) kept.reading kept.state kept.live kept.frames has.core.queues has.core.frames frame.task.number f has.of.live a a-live queue m cause.1.is)
 
   pub cause-shown : (queue : ℕ) (wait_for : WaitFor) → AsksOf frame queue → IsCause kept.name kept.state a queue wait_for → IsShown G kept frame wait_for
   cause-shown queue (wait.Child m) asks cause = absurd cause

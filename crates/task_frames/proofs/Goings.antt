@@ -141,7 +141,7 @@ module _ {B L : Type 0} (G : Ghosts B L) (kept : KeptView) (mid : Mid B L) (asks
     module _ (after : KeptView) (g : LiveFrame) (own_path : g.path ≡ mid.task.path) (own_done : g.done ≡ mid.task.done + 1) (own_holdings : g.holdings ≡ mid.task.holdings)
         (only : IsOnlyLive kept.live after.live mid.task.number (Some g))
         (name : after.name ≡ kept.name) (reading : after.reading ≡ gone_on_by kept.reading mid.task.number 1) (count : after.frames ≡ kept.frames) (faults : after.faults ≡ kept.faults)
-        (queues : AreQueues (script G mid.task.plan) (gone_on_by kept.reading mid.task.number 1) after.state after.turns)
+        (queues : AreQueues (script G mid.task.plan) (gone_on_by kept.reading mid.task.number 1) after.state)
         (objects : AreObjects (script G mid.task.plan) (gone_on_by kept.reading mid.task.number 1) after.versions after.live after.objects)
         (frames : AreFrames G mid.task.plan (gone_on_by kept.reading mid.task.number 1) after.state after.live kept.frames)
         (counted : AreCounted (script G mid.task.plan) after.live kept.faults)
@@ -151,7 +151,7 @@ module _ {B L : Type 0} (G : Ghosts B L) (kept : KeptView) (mid : Mid B L) (asks
       core-next = record {
         sound = has.core.sound;
         name = name ∙ has.core.name;
-        queues = subst (λ r. AreQueues (script G mid.task.plan) r after.state after.turns) (sym reading) queues;
+        queues = subst (λ r. AreQueues (script G mid.task.plan) r after.state) (sym reading) queues;
         objects = subst (λ r. AreObjects (script G mid.task.plan) r after.versions after.live after.objects) (sym reading) objects;
         frames = subst (λ r. AreFrames G mid.task.plan r after.state after.live after.frames) (sym reading)
             (subst (AreFrames G mid.task.plan (gone_on_by kept.reading mid.task.number 1) after.state after.live) (sym count) frames);
@@ -215,7 +215,7 @@ module _ {B L : Type 0} (G : Ghosts B L) (kept : KeptView) (mid : Mid B L) (asks
     runs-quiet after only is no_queue no_object no_spawn no_wait =
         subst (λ k. IsStep G kept k mid.task (step.Runs (record { task = one_on mid.task; stage = Ready mid.local said }))) (sym is)
         (runs (record kept { reading = gone_on_by kept.reading n 1; live = after.live }) (record f { done = mid.task.done + 1 }) has.of.path refl has.of.holdings only refl refl refl refl
-        (queues.others told-by (lawful G kept (asking mid asks) has) kept.reading kept.state kept.turns has.core.queues n mid.task.path mid.task.done (known G kept (asking mid asks) has)
+        (queues.others told-by (lawful G kept (asking mid asks) has) kept.reading kept.state has.core.queues n mid.task.path mid.task.done (known G kept (asking mid asks) has)
         does goes.deed no_queue stands-next.left)
         (objects.others told-by (lawful G kept (asking mid asks) has) kept.reading kept.versions kept.live kept.objects has.core.objects n mid.task.path mid.task.done (known G kept (asking mid asks) has)
         f has.of.live after.live does goes.deed has.is.alone.stands.left no_object no_spawn begun.ready only)
@@ -231,7 +231,7 @@ module _ {B L : Type 0} (G : Ghosts B L) (kept : KeptView) (mid : Mid B L) (asks
     runs-synced after only is wait alone =
         subst (λ k. IsStep G kept k mid.task (step.Runs (record { task = one_on mid.task; stage = Ready mid.local said }))) (sym is)
         (runs (record kept { reading = gone_on_by kept.reading n 1; live = after.live }) (synced_at (mid.task.done + 1) f) has.of.path refl has.of.holdings only refl refl refl refl
-        (queues.others told-by (lawful G kept (asking mid asks) has) kept.reading kept.state kept.turns has.core.queues n mid.task.path mid.task.done (known G kept (asking mid asks) has)
+        (queues.others told-by (lawful G kept (asking mid asks) has) kept.reading kept.state has.core.queues n mid.task.path mid.task.done (known G kept (asking mid asks) has)
         does goes.deed (ap is_queue_deed wait) stands-next.left)
         (objects.as-before told-by (gone_on_by kept.reading n 1) kept.versions then-live after.live kept.objects given-so
         (objects.others told-by (lawful G kept (asking mid asks) has) kept.reading kept.versions kept.live kept.objects has.core.objects n mid.task.path mid.task.done (known G kept (asking mid asks) has)
@@ -266,7 +266,7 @@ module _ {B L : Type 0} (G : Ghosts B L) (kept : KeptView) (mid : Mid B L) (asks
         subst (λ k. IsStep G kept k mid.task (step.Runs (record { task = one_on mid.task; stage = Ready mid.local said }))) (sym is)
         (runs (record kept { versions = after_write kept.versions n place value; reading = gone_on_by kept.reading n 1; live = after.live }) (record f { done = mid.task.done + 1 }) has.of.path refl has.of.holdings
         only refl refl refl refl
-        (queues.others told-by (lawful G kept (asking mid asks) has) kept.reading kept.state kept.turns has.core.queues n mid.task.path mid.task.done (known G kept (asking mid asks) has)
+        (queues.others told-by (lawful G kept (asking mid asks) has) kept.reading kept.state has.core.queues n mid.task.path mid.task.done (known G kept (asking mid asks) has)
         does goes.deed (ap is_queue_deed written) stands-next.left)
         (objects.written told-by (lawful G kept (asking mid asks) has) kept.reading kept.versions kept.live kept.objects has.core.objects n mid.task.path mid.task.done (known G kept (asking mid asks) has)
         f has.of.live after.live place value object origin (after_write kept.versions n place value) (goes.deed ∙ written) has.is.alone.stands.left stands may named refl begun.ready only)
@@ -284,7 +284,7 @@ module _ {B L : Type 0} (G : Ghosts B L) (kept : KeptView) (mid : Mid B L) (asks
         let no_wait : does ≢ deed.Sync = λ same. absurd (false≢true (sym (ap is_queue_deed same) ∙ queue)) in
         subst (λ k. IsStep G kept k mid.task (step.Runs (record { task = one_on mid.task; stage = Ready mid.local said }))) (sym is)
         (runs (record kept { state = after_deed kept.state n; reading = gone_on_by kept.reading n 1; live = after.live }) (record f { done = mid.task.done + 1 }) has.of.path refl has.of.holdings only refl refl refl refl
-        (queues.used told-by (lawful G kept (asking mid asks) has) kept.reading kept.state kept.turns has.core.queues n mid.task.path mid.task.done (known G kept (asking mid asks) has)
+        (queues.used told-by (lawful G kept (asking mid asks) has) kept.reading kept.state has.core.queues n mid.task.path mid.task.done (known G kept (asking mid asks) has)
         does (after_deed kept.state n) goes.deed queue no_spawn no_making stands-next.left act refl)
         (objects.others told-by (lawful G kept (asking mid asks) has) kept.reading kept.versions kept.live kept.objects has.core.objects n mid.task.path mid.task.done (known G kept (asking mid asks) has)
         f has.of.live after.live does goes.deed has.is.alone.stands.left no_object no_spawn begun.ready only)

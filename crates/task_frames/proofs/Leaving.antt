@@ -68,7 +68,7 @@ module _ {B L : Type 0} (G : Ghosts B L) (plan : Plan B L) (kept : KeptView) (co
   value-left i less value is =
       let root = core.objects.roots i less in
       let here = ap (λ n. placed_at kept.versions 0 (n + i)) (sym many-queues) ∙ root.stands in
-      object-left G plan (lawful G plan core.sound.lists) kept.reading kept.state kept.turns kept.live kept.frames core.queues core.frames over kept.versions kept.objects core.objects i less root.object value root.stands (is root.object here)
+      object-left G plan (lawful G plan core.sound.lists) kept.reading kept.state kept.live kept.frames core.queues core.frames over kept.versions kept.objects core.objects i less root.object value root.stands (is root.object here)
 
   -- which nobody owes
   pub never-owed : (i owing : ℕ) → i < length plan.roots.objects
@@ -83,14 +83,14 @@ module _ {B L : Type 0} (G : Ghosts B L) (plan : Plan B L) (kept : KeptView) (co
   -- the rest of a root queue may be taken, and is what the elision leaves
   pub rest-free : (now : QueueState) → now.frames ≡ kept.state.frames → now.makers ≡ kept.state.makers → (i : ℕ) → i < length plan.roots.queues → IsRestLeft now i
   rest-free now frames makers i less =
-      rest-may G plan (lawful G plan core.sound.lists) kept.reading kept.state kept.turns kept.live kept.frames core.queues core.frames over now frames makers i (subst (λ n. i < n) (sym many-queues) less)
+      rest-may G plan (lawful G plan core.sound.lists) kept.reading kept.state kept.live kept.frames core.queues core.frames over now frames makers i (subst (λ n. i < n) (sym many-queues) less)
 
   pub rest-is : (now : QueueState) → now.makers ≡ kept.state.makers → (i : ℕ) → i < length plan.roots.queues → is_emptied now i ≡ false → (rest : List Value)
       → (is_emptied now i ≡ false → OnQueue kept.name now i (λ s origin. rest ≡ rest_of s origin)) → slice_get (outcome G plan).queues i ≡ Some rest
   rest-is now makers i less fresh rest tells =
       let lawful-is = lawful G plan core.sound.lists in
       let within = subst (λ n. i < n) (sym many-queues) less in
-      let root = queue-root G plan lawful-is kept.reading kept.state kept.turns kept.live kept.frames core.queues core.frames over i within in
+      let root = queue-root G plan lawful-is kept.reading kept.state kept.live kept.frames core.queues core.frames over i within in
       let origin : queue_origin s now i ≡ Some (Root i) = ap (λ ms. queue_origin s (record now { makers = ms }) i) makers ∙ root in
       let is = tells fresh s core.name lawful-is (Root i) origin in
-      rest-left G plan lawful-is kept.reading kept.state kept.turns kept.live kept.frames core.queues core.frames over i within ∙ ap Some (sym is)
+      rest-left G plan lawful-is kept.reading kept.state kept.live kept.frames core.queues core.frames over i within ∙ ap Some (sym is)

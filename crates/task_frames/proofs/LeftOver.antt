@@ -27,7 +27,6 @@ use Rattle.swan_model.specs.VersionsFollow.{IsVersionAt}
 use Rattle.swan_model.proofs.Elements.{found_is, option_cases}
 use Rattle.swan_model.proofs.Lists.{some_within}
 use Rattle.swan_model.proofs.TaskEntries.{end_at, own_before, point_over, spawn_own}
-use Rattle.pop_order.specs.Frames.{Frames}
 use Rattle.queues.specs.Asks.{IsRestLeft}
 use Rattle.queues.specs.Tells.{rest_of}
 use Rattle.queues.specs.Tree.{IsTree}
@@ -79,8 +78,8 @@ module _ (s : Script) (lawful : IsLawful s) (state : QueueState) (r : Reading) (
       let it = task-read t own.entry own.stands [] own.entry.path refl root in
       record { index = it.index; progress = it.progress; stands = it.stands; own = it.own ∙ own.own }
 
-module _ {B L : Type 0} (G : Ghosts B L) (plan : Plan B L) (lawful : IsLawful (script G plan)) (r : Reading) (state : QueueState) (turns : Frames) (live : NumberedFrames) (frames : ℕ)
-    (queues : AreQueues (script G plan) r state turns) (are : AreFrames G plan r state live frames) (gone : live_at live 0 ≡ None) where
+module _ {B L : Type 0} (G : Ghosts B L) (plan : Plan B L) (lawful : IsLawful (script G plan)) (r : Reading) (state : QueueState) (live : NumberedFrames) (frames : ℕ)
+    (queues : AreQueues (script G plan) r state) (are : AreFrames G plan r state live frames) (gone : live_at live 0 ≡ None) where
   abbrev s : Script
   s = script G plan
 

@@ -17,7 +17,6 @@ use Rattle.swan_model.specs.Told.{deed_at}
 use Rattle.swan_model.specs.Versions.{IsSettled, Placed, VersionState, placed_at}
 use Rattle.swan_model.proofs.Elements.{option_cases}
 use Rattle.object_versions.proofs.EndedChildren.{ended_children}
-use Rattle.pop_order.specs.Frames.{Frames}
 use Rattle.queues.specs.Asks.{MayJoin}
 use Rattle.pop_order.specs.OneChange.{IsOnlyChange}
 use Rattle.queues.proofs.ActiveAfter.{one_changed}
@@ -30,8 +29,8 @@ use Rattle.task_frames.proofs.Queues.{next-does}
 use Rattle.task_frames.proofs.Waiting.{active-child}
 use Rattle.swan_model.proofs.Paths.{not_root}
 
-module _ {B L : Type 0} (G : Ghosts B L) (plan : Plan B L) (lawful : IsLawful (script G plan)) (r : Reading) (state : QueueState) (turns : Frames) (live : NumberedFrames) (frames : ℕ)
-    (queues : AreQueues (script G plan) r state turns) (are : AreFrames G plan r state live frames) (n : ℕ) (f : LiveFrame) (there : live_at live n ≡ Some f)
+module _ {B L : Type 0} (G : Ghosts B L) (plan : Plan B L) (lawful : IsLawful (script G plan)) (r : Reading) (state : QueueState) (live : NumberedFrames) (frames : ℕ)
+    (queues : AreQueues (script G plan) r state) (are : AreFrames G plan r state live frames) (n : ℕ) (f : LiveFrame) (there : live_at live n ≡ Some f)
     (alone : (m : ℕ) → ¬ IsLiveChild live n m) where
   abbrev s : Script
   s = script G plan
@@ -100,7 +99,7 @@ module _ {B L : Type 0} (G : Ghosts B L) (plan : Plan B L) (lawful : IsLawful (s
             | inr found ↦
                 let told = are.told m found.0 found.1 in
                 let same : record { number = m; path = found.0.path; done = found.0.done } ≡ below = same_Some _ below (sym told.progress ∙ known) in
-                absurd (none-active m (active-child G plan lawful r state turns live frames queues are n f there m index found.0 found.1 (ap (λ (q : Progress). q.path) same ∙ path)))
+                absurd (none-active m (active-child G plan lawful r state live frames queues are n f there m index found.0 found.1 (ap (λ (q : Progress). q.path) same ∙ path)))
             | inl none ↦ elim (cases_eq m 0) [
               | inl root ↦
                   let it = have.follow.root in

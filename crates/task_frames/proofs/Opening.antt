@@ -40,8 +40,6 @@ use Rattle.queues.proofs.Creating.{root_created_follows}
 use Rattle.queues.proofs.ReadingStart.{start_fits}
 use Rattle.queues.proofs.Rereading.{root_queue_fits}
 use Rattle.queues.proofs.TreeKept.{only_root, tree_new, tree_root}
-use Rattle.queues.proofs.TurnsKept.{turns_none}
-use Rattle.queues.proofs.TurnsMade.{turns_root}
 use Rattle.serial_elision.specs.Laws.{IsObjectOf}
 use Rattle.swan_model.proofs.RootLists.{length-queue_holdings}
 use Rattle.serial_elision.proofs.RootNames.{root-object_name, root-queue_name}
@@ -82,7 +80,6 @@ queues-start s lawful = record {
   follow = new_queues_follow s lawful;
   fit = λ objects. start_fits s lawful objects;
   tree = tree_new;
-  turns_are = turns_none new_state (λ n frame live. ap (λ (f : ActiveFrame). f.parent) (only_root n frame live).1);
   many = refl;
   roots = λ j less. absurd (omega (arith, less));
   whole = refl;
@@ -111,7 +108,6 @@ queues-next s lawful state after i first are at same = subst (λ q. AreFirstQueu
         let named : Fits s (after_create_root state) (at_start (roots_to i ++ Root i ∷ []) objects) = subst (λ j. Fits s (after_create_root state) (at_start (roots_to i ++ Root j ∷ []) objects)) are.many next in
         subst (λ j. Fits s (after_create_root state) (at_start (roots_to j) objects)) one named;
     tree = tree_root state are.tree are.untouched;
-    turns_are = turns_root state are.tree [] are.turns_are are.untouched;
     many = length-append state.makers (planned (length state.makers) ∷ []) ∙ ap (λ j. j + 1) are.many;
     roots = λ j less. elim (cases_lt j i) [
       | inl before ↦ before_more state.makers (planned (length state.makers)) j (planned j) (are.roots j before)
@@ -305,12 +301,11 @@ module _ {B L : Type 0} (G : Ghosts B L) (plan : Plan B L) (sound : IsPlan plan)
 
   -- ---- its parts
 
-  pub queues-open : AreQueues s first-reading state []
+  pub queues-open : AreQueues s first-reading state
   queues-open = record {
     follow = queues.follow;
     fit = queues.fit (roots_to (length s.objects));
     tree = queues.tree;
-    turns_are = queues.turns_are;
     roots = queues.roots;
     whole = queues.whole;
   }

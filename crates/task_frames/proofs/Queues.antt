@@ -14,12 +14,10 @@ use Rattle.swan_model.specs.QueueState.{ActiveFrame, LentEnd, QueueRight, QueueS
 use Rattle.swan_model.specs.Readings.{next_deed, reading_after_spawn, with_queue}
 use Rattle.swan_model.specs.SerialTime.{Progress, Reading, frame_of, is_queue_deed, point, time, times}
 use Rattle.swan_model.specs.Told.{deed_at}
-use Rattle.pop_order.specs.Frames.{Frames, without}
 use Rattle.queues.specs.Asks.{MayDo, MayJoin, MaySpawn}
 use Rattle.queues.specs.Reads.{deeds_among}
 use Rattle.swan_model.specs.Readings.{gone_on_by}
 use Rattle.queues.specs.Tree.{IsTree}
-use Rattle.queues.specs.Turned.{AreGivenTurns, AreTurns}
 use Rattle.swan_model.proofs.Elements.{before_more}
 use Rattle.swan_model.proofs.TaskEntries.{point_is}
 use Rattle.queues.proofs.Calls.{back_follows, lent_follows, no_making, used_follows}
@@ -34,9 +32,6 @@ use Rattle.queues.proofs.Rereading.{deed_fits, finish_fits, fit_of, last_pop-fit
 use Rattle.queues.proofs.ReadingSpawns.{spawned_fits}
 use Rattle.queues.proofs.Spawning.{spawned_follows}
 use Rattle.queues.proofs.TreeKept.{tree_back, tree_create, tree_deed, tree_finish, tree_lend, tree_spawn}
-use Rattle.queues.proofs.TurnsCalls.{turns_back, turns_deed, turns_finish, turns_lend}
-use Rattle.queues.proofs.TurnsMade.{turns_create}
-use Rattle.queues.proofs.TurnsSpawned.{turns_spawned}
 use Rattle.task_frames.specs.Cores.{AreQueues}
 use Rattle.task_frames.proofs.CatchUp.{next-is}
 use Rattle.task_frames.proofs.GoneOn.{with-child}
@@ -48,7 +43,7 @@ at n path k = record { number = n; path = path; done = k }
 abbrev pub next-does : (s : Script) (n : ℕ) (path : List ℕ) (k : ℕ) (does : Deed) → k < length (times s path) → deed_at s (time s path k) ≡ does → next_deed s (record { number = n; path = path; done = k }) ≡ Some does
 next-does s n path k does left is = next-is s (at n path k) left ∙ ap Some is
 
-module _ (s : Script) (lawful : IsLawful s) (r : Reading) (state : QueueState) (turns : Frames) (are : AreQueues s r state turns) (n : ℕ) (path : List ℕ) (k : ℕ)
+module _ (s : Script) (lawful : IsLawful s) (r : Reading) (state : QueueState) (are : AreQueues s r state) (n : ℕ) (path : List ℕ) (k : ℕ)
     (known : frame_of r n ≡ Some (record { number = n; path = path; done = k })) where
   abbrev p : Progress
   p = at n path k
@@ -59,7 +54,7 @@ module _ (s : Script) (lawful : IsLawful s) (r : Reading) (state : QueueState) (
   -- a frame's ends come back, and with them all that it did since it was given
   pub back : (a : ActiveFrame) (many : ℕ) (after : QueueState) → active state n ≡ Some a → k + many < length (times s path)
       → AreByEnds s path a.deeds (deeds_among s path (k + many)) → after ≡ after_back state n (deeds_among s path (k + many))
-      → AreQueues s (gone_on_by r n many) after turns
+      → AreQueues s (gone_on_by r n many) after
   back a many after live left by_ends same =
       let d = deeds_among s path (k + many) in
       let fit = fit-now a live in
@@ -69,95 +64,89 @@ module _ (s : Script) (lawful : IsLawful s) (r : Reading) (state : QueueState) (
         left = subst (λ q. k + many < length (times s q)) fit.path left;
         deeds = ap (λ q. deeds_among s q (k + many)) (sym fit.path);
       } in
-      let whole : AreQueues s (gone_on_by r n many) (after_back state n d) turns = record {
+      let whole : AreQueues s (gone_on_by r n many) (after_back state n d) = record {
         follow = back_follows s lawful state a d ends are.follow n live;
         fit = back_fits s lawful state r are.fit n d many a p live known ends then;
         tree = tree_back state n d are.tree;
-        turns_are = turns_back state turns are.turns_are n d a live;
         roots = are.roots;
         whole = are.whole;
       } in
-      subst (λ q. AreQueues s (gone_on_by r n many) q turns) (sym same) whole
+      subst (λ q. AreQueues s (gone_on_by r n many) q) (sym same) whole
 
   -- an entry that is no deed of queues
   pub others-over : (does : Deed) (objects : List Origin) → deed_at s (time s path k) ≡ does → is_queue_deed does ≡ false → k + 1 < length (times s path)
-      → AreQueues s (record (gone_on_by r n 1) { objects = objects }) state turns
+      → AreQueues s (record (gone_on_by r n 1) { objects = objects }) state
   others-over does objects is quiet more = record {
     follow = are.follow;
     fit = others_fit s lawful state r are.fit n p known does objects (next-does s n path k does (omega (arith, more)) is) quiet more;
     tree = are.tree;
-    turns_are = are.turns_are;
     roots = are.roots;
     whole = are.whole;
   }
 
-  pub others : (does : Deed) → deed_at s (time s path k) ≡ does → is_queue_deed does ≡ false → k + 1 < length (times s path) → AreQueues s (gone_on_by r n 1) state turns
+  pub others : (does : Deed) → deed_at s (time s path k) ≡ does → is_queue_deed does ≡ false → k + 1 < length (times s path) → AreQueues s (gone_on_by r n 1) state
   others does = others-over does r.objects
 
   -- a push, a pop or a test
   pub used : (does : Deed) (after : QueueState) → deed_at s (time s path k) ≡ does → is_queue_deed does ≡ true → is_spawn does ≡ false → does ≢ MakeQueue → k + 1 < length (times s path)
-      → MayDo state n → after ≡ after_deed state n → AreQueues s (gone_on_by r n 1) after turns
+      → MayDo state n → after ≡ after_deed state n → AreQueues s (gone_on_by r n 1) after
   used does after is queue still other more act same =
       let next = next-does s n path k does (omega (arith, more)) is in
       let live = act.may.live in
-      let whole : AreQueues s (gone_on_by r n 1) (after_deed state n) turns = record {
+      let whole : AreQueues s (gone_on_by r n 1) (after_deed state n) = record {
         follow = used_follows s lawful state are.follow n act.frame does live (next_same s act.frame p (fit-now act.frame live) does next queue) (no_making does still other);
         fit = deed_fits s lawful state r are.fit n p known does next queue still more;
         tree = tree_deed state n are.tree act;
-        turns_are = turns_deed state turns are.turns_are n act;
         roots = are.roots;
         whole = are.whole;
       } in
-      subst (λ q. AreQueues s (gone_on_by r n 1) q turns) (sym same) whole
+      subst (λ q. AreQueues s (gone_on_by r n 1) q) (sym same) whole
 
   -- a queue that is made
   pub created : (act : MayDo state n) (after : QueueState) → deed_at s (time s path k) ≡ MakeQueue → k < length (times s path) → after ≡ after_create state act.frame
-      → AreQueues s (with_queue (gone_on_by r n 1) (Step (time s path k))) after turns
+      → AreQueues s (with_queue (gone_on_by r n 1) (Step (time s path k))) after
   created act after is left same =
       let next = next-does s n path k MakeQueue left is in
       let live = act.may.live in
       let now : point s p ≡ time s path k = point_is s p left in
-      let whole : AreQueues s (with_queue (gone_on_by r n 1) (Step (time s path k))) (after_create state act.frame) turns = record {
+      let whole : AreQueues s (with_queue (gone_on_by r n 1) (Step (time s path k))) (after_create state act.frame) = record {
         follow = created_follows s lawful state are.follow n act.frame live (next_same s act.frame p (fit-now act.frame live) MakeQueue next refl);
         fit = subst (λ t. Fits s (after_create state act.frame) (with_queue (gone_on_by r n 1) (Step t))) now (made_fits s lawful state r are.fit p act.frame n live known next);
         tree = tree_create state n are.tree act;
-        turns_are = turns_create state are.tree turns are.turns_are n act;
         roots = λ i less. before_more state.makers _ i (planned i) (are.roots i less);
         whole = are.whole;
       } in
-      subst (λ q. AreQueues s (with_queue (gone_on_by r n 1) (Step (time s path k))) q turns) (sym same) whole
+      subst (λ q. AreQueues s (with_queue (gone_on_by r n 1) (Step (time s path k))) q) (sym same) whole
 
   -- the end of a frame, by an entry that is no deed of queues
-  pub finished : (does : Deed) (after : QueueState) (then_turns : Frames) → deed_at s (time s path k) ≡ does → is_queue_deed does ≡ false → k + 1 ≡ length (times s path)
-      → MayJoin state n → after ≡ after_finish state n → then_turns ≡ without turns n → AreQueues s (gone_on_by r n 1) after then_turns
-  finished does after then_turns is quiet last may same gone =
-      let whole : AreQueues s (gone_on_by r n 1) (after_finish state n) (without turns n) = record {
+  pub finished : (does : Deed) (after : QueueState) → deed_at s (time s path k) ≡ does → is_queue_deed does ≡ false → k + 1 ≡ length (times s path)
+      → MayJoin state n → after ≡ after_finish state n → AreQueues s (gone_on_by r n 1) after
+  finished does after is quiet last may same =
+      let whole : AreQueues s (gone_on_by r n 1) (after_finish state n) = record {
         follow = finished_follows s state are.follow n may.alone;
         fit = finish_fits s lawful state r are.fit n p known does (next-does s n path k does (omega (arith, last)) is) quiet last;
         tree = tree_finish state n are.tree may;
-        turns_are = turns_finish state turns are.turns_are n;
         roots = are.roots;
         whole = are.whole;
       } in
-      subst (λ q. AreQueues s (gone_on_by r n 1) q then_turns) (sym same) (subst (AreQueues s (gone_on_by r n 1) (after_finish state n)) (sym gone) whole)
+      subst (λ q. AreQueues s (gone_on_by r n 1) q) (sym same) whole
 
   -- and by the pop of an empty queue, which the queues have counted before
-  pub finished-dry : (queue : Origin) (after : QueueState) (then_turns : Frames) → deed_at s (time s path k) ≡ Pop queue → k + 1 ≡ length (times s path)
-      → MayDo state n → MayJoin (after_deed state n) n → after ≡ after_finish (after_deed state n) n → then_turns ≡ without turns n → AreQueues s (gone_on_by r n 1) after then_turns
-  finished-dry queue after then_turns is last act may same gone =
+  pub finished-dry : (queue : Origin) (after : QueueState) → deed_at s (time s path k) ≡ Pop queue → k + 1 ≡ length (times s path)
+      → MayDo state n → MayJoin (after_deed state n) n → after ≡ after_finish (after_deed state n) n → AreQueues s (gone_on_by r n 1) after
+  finished-dry queue after is last act may same =
       let next = next-does s n path k (Pop queue) (omega (arith, last)) is in
       let live = act.may.live in
       let popped : QueuesFollow s (after_deed state n) =
       used_follows s lawful state are.follow n act.frame (Pop queue) live (next_same s act.frame p (fit-now act.frame live) (Pop queue) next refl) refl in
-      let whole : AreQueues s (gone_on_by r n 1) (after_finish (after_deed state n) n) (without turns n) = record {
+      let whole : AreQueues s (gone_on_by r n 1) (after_finish (after_deed state n) n) = record {
         follow = finished_follows s (after_deed state n) popped n may.alone;
         fit = last_pop-fits s lawful state r are.fit n p known queue next last;
         tree = tree_finish (after_deed state n) n (tree_deed state n are.tree act) may;
-        turns_are = turns_finish (after_deed state n) turns (turns_deed state turns are.turns_are n act) n;
         roots = are.roots;
         whole = are.whole;
       } in
-      subst (λ q. AreQueues s (gone_on_by r n 1) q then_turns) (sym same) (subst (AreQueues s (gone_on_by r n 1) (after_finish (after_deed state n) n)) (sym gone) whole)
+      subst (λ q. AreQueues s (gone_on_by r n 1) q) (sym same) whole
 
   -- a spawn
   pub spawned-is : (a : ActiveFrame) (child : ℕ) → active state n ≡ Some a → k < length (times s path)
@@ -169,35 +158,33 @@ module _ (s : Script) (lawful : IsLawful s) (r : Reading) (state : QueueState) (
       let many : children_before s path (point s p) ≡ a.children = ap (λ q. children_before s q (point s p)) fit.path ∙ sym count in
       ap {B = Reading} (λ i. with-child r n (record { number = child; path = path ++ i ∷ []; done = 0 })) many
 
-  pub spawned-so : (a : ActiveFrame) (child : ℕ) (gives : List QueueRight) (all : List OriginGive) (after : QueueState) (then_turns : Frames) → active state n ≡ Some a
+  pub spawned-so : (a : ActiveFrame) (child : ℕ) (gives : List QueueRight) (all : List OriginGive) (after : QueueState) → active state n ≡ Some a
       → deed_at s (time s path k) ≡ Spawn all → k < length (times s path) → frame_of r child ≡ None → MaySpawn state n child gives → NextSpawnGivesQueues s state a gives
-      → after ≡ after_spawn state a child gives → AreGivenTurns turns then_turns n child gives
-      → AreQueues s (with-child r n (record { number = child; path = path ++ a.children ∷ []; done = 0 })) after then_turns
-  spawned-so a child gives all after then_turns live is left unread may next_gives same given =
+      → after ≡ after_spawn state a child gives
+      → AreQueues s (with-child r n (record { number = child; path = path ++ a.children ∷ []; done = 0 })) after
+  spawned-so a child gives all after live is left unread may next_gives same =
       let next = next-does s n path k (Spawn all) left is in
       let one : may.act.frame ≡ a = same_Some may.act.frame a (sym may.act.may.live ∙ live) in
       let free = not_active state are.tree child may.newest in
       let then = after_spawn state a child gives in
-      let whole : AreQueues s (reading_after_spawn s r p child) then then_turns = record {
+      let whole : AreQueues s (reading_after_spawn s r p child) then = record {
         follow = spawned_follows s lawful state are.follow n child a gives live free next_gives;
         fit = spawned_fits s lawful state are.follow r are.fit n child a p all gives live known free unread next;
         tree = subst (λ f. IsTree (after_spawn state f child gives)) one (tree_spawn state n child gives are.tree may);
-        turns_are = subst (λ f. AreTurns (after_spawn state f child gives) then_turns) one (turns_spawned state are.tree turns are.turns_are n child gives may then_turns given);
         roots = are.roots;
         whole = are.whole;
       } in
-      subst (λ q. AreQueues s q after then_turns) (spawned-is a child live left) (subst (λ q. AreQueues s (reading_after_spawn s r p child) q then_turns) (sym same) whole)
+      subst (λ q. AreQueues s q after) (spawned-is a child live left) (subst (λ q. AreQueues s (reading_after_spawn s r p child) q) (sym same) whole)
 
 -- ends that are lent
-pub lent : (s : Script) (r : Reading) (state : QueueState) (turns : Frames) → AreQueues s r state turns → (n : ℕ) (a : ActiveFrame) (list : List LentEnd) (after : QueueState)
-    → active state n ≡ Some a → after ≡ after_lend state a list → AreQueues s r after turns
-lent s r state turns are n a list after live same =
-    let whole : AreQueues s r (after_lend state a list) turns = record {
+pub lent : (s : Script) (r : Reading) (state : QueueState) → AreQueues s r state → (n : ℕ) (a : ActiveFrame) (list : List LentEnd) (after : QueueState)
+    → active state n ≡ Some a → after ≡ after_lend state a list → AreQueues s r after
+lent s r state are n a list after live same =
+    let whole : AreQueues s r (after_lend state a list) = record {
       follow = lent_follows s state are.follow n a list live;
       fit = lent_fits s state r are.fit a list;
       tree = tree_lend state a list are.tree;
-      turns_are = turns_lend state turns are.turns_are n a list live;
       roots = are.roots;
       whole = are.whole;
     } in
-    subst (λ q. AreQueues s r q turns) (sym same) whole
+    subst (λ q. AreQueues s r q) (sym same) whole

@@ -26,7 +26,6 @@ use Rattle.swan_model.specs.Told.{cell, count, deed_at, pushes, taken}
 use Rattle.swan_model.specs.TrueFrames.{StandsAt, give_in, gives_at}
 use Rattle.swan_model.specs.Versions.{Placed, VersionState, placed_at}
 use Rattle.swan_model.proofs.TaskEntries.{point_is}
-use Rattle.pop_order.specs.Frames.{Frames}
 use Rattle.queues.specs.Asks.{HasRoom, MayDo, MayLook, MayUse}
 use Rattle.queues.specs.Tells.{FindsItem, FindsNone}
 use Rattle.queues.proofs.NextDeeds.{next_same}
@@ -79,7 +78,7 @@ module _ {B L : Type 0} (G : Ghosts B L) (plan : Plan B L) (sound : IsPlan plan)
 
     -- ---- queues
 
-    module _ (state : QueueState) (turns : Frames) (are : AreQueues s r state turns) (a : ActiveFrame) (own : active state n ≡ Some a) where
+    module _ (state : QueueState) (are : AreQueues s r state) (a : ActiveFrame) (own : active state n ≡ Some a) where
       pub queue-so : (place number : ℕ) (mode : Mode) (origin : Origin) → MayUseAt G plan path k top place mode origin → number_at f.holdings place mode ≡ Some number → is_queue_mode mode ≡ true
           → queue_origin s state number ≡ Some origin
       queue-so place number mode origin used_so at_place queue =

@@ -31,10 +31,8 @@ use Rattle.swan_model.specs.SerialTime.{Progress}
 use Rattle.swan_model.specs.TrueFrames.{StandsAt}
 use Rattle.queues.specs.Asks.{IsOnTurn, MaySpawn, OnNext}
 use Rattle.swan_model.specs.Readings.{gone_on_by}
-use Rattle.queues.specs.Turned.{AreApart, AreGivenTurns, AreOlder}
 use Rattle.queues.proofs.ActiveAfter.{child_spawned, others_spawned, parent_spawned}
 use Rattle.queues.proofs.Match.{not_active}
-use Rattle.queues.proofs.TurnsSpawned.{turns_older}
 use Rattle.serial_elision.specs.Caught.{has_failed, once_ended}
 use Rattle.serial_elision.specs.TaskSteps.{IsAsking, Spawns, child_activation, parent_activation}
 use Rattle.serial_elision.proofs.Caught.{children-counted}
@@ -176,12 +174,12 @@ module _ {B L : Type 0} (G : Ghosts B L) (kept : KeptView) (mid : Mid B L) (chil
         -- what the queues are asked
         pub may-spawn : MaySpawn kept.state n kept.frames (queue_rights hs)
         may-spawn =
-            spawning.may-spawn G plan has.core.sound law kept.reading kept.state kept.turns kept.live kept.frames has.core.queues has.core.frames n f has.of.live a own-live task.path task.done top has.of.path done-so
+            spawning.may-spawn G plan has.core.sound law kept.reading kept.state kept.live kept.frames has.core.queues has.core.frames n f has.of.live a own-live task.path task.done top has.of.path done-so
             has.is.alone.stands mid.local child spawn hs record-given alone back-so shallow
 
         pub next-gives : NextSpawnGivesQueues s kept.state a (queue_rights hs)
         next-gives =
-            spawning.spawn-next G plan has.core.sound law kept.reading kept.state kept.turns kept.live kept.frames has.core.queues has.core.frames n f has.of.live a own-live task.path task.done top has.of.path done-so
+            spawning.spawn-next G plan has.core.sound law kept.reading kept.state kept.live kept.frames has.core.queues has.core.frames n f has.of.live a own-live task.path task.done top has.of.path done-so
             has.is.alone.stands mid.local child spawn hs record-given alone
 
         pub turn-so : MayBegin kept n → IsOnTurn kept.name kept.state n
@@ -208,18 +206,11 @@ module _ {B L : Type 0} (G : Ghosts B L) (kept : KeptView) (mid : Mid B L) (chil
           given_is = record-given;
           alone = alone;
           starts = giving-starts s kept.reading kept.versions (record { number = n; path = task.path; done = task.done }) kept.frames child.gives has.core.objects.follow
-              (spawning.child-new G plan has.core.sound law kept.reading kept.state kept.turns kept.live kept.frames has.core.queues has.core.frames n f has.of.live a own-live task.path task.done top has.of.path done-so
+              (spawning.child-new G plan has.core.sound law kept.reading kept.state kept.live kept.frames has.core.queues has.core.frames n f has.of.live a own-live task.path task.done top has.of.path done-so
               has.is.alone.stands mid.local child spawn hs record-given alone kept.versions kept.objects has.core.objects)
-              (spawning.spawn-next_objects G plan has.core.sound law kept.reading kept.state kept.turns kept.live kept.frames has.core.queues has.core.frames n f has.of.live a own-live task.path task.done top has.of.path done-so
+              (spawning.spawn-next_objects G plan has.core.sound law kept.reading kept.state kept.live kept.frames has.core.queues has.core.frames n f has.of.live a own-live task.path task.done top has.of.path done-so
               has.is.alone.stands mid.local child spawn hs record-given alone kept.versions kept.objects has.core.objects);
         }
-
-        -- and the turns
-        pub older-turns : AreOlder kept.turns kept.frames
-        older-turns = turns_older kept.state has.core.queues.tree kept.turns has.core.queues.turns_are n kept.frames (queue_rights hs) may-spawn
-
-        pub apart-turns : AreApart kept.turns
-        apart-turns = has.core.queues.turns_are.apart
 
         pub number-lesser : n < kept.frames
         number-lesser = spawning.lesser-number G plan kept.reading kept.state kept.live kept.frames has.core.frames n _ (known G kept (asking mid (ask.Spawn child)) has)
@@ -247,7 +238,6 @@ module _ {B L : Type 0} (G : Ghosts B L) (kept : KeptView) (mid : Mid B L) (chil
         -- each call is made, and the record has both frames
         pub record IsSpawnMade (after : KeptView) : Type 0 where
           pub made : AreMade s kept.reading kept.versions after.versions (record { number = n; path = task.path; done = task.done }) kept.frames child.gives (length child.gives)
-          pub given_turns : AreGivenTurns kept.turns after.turns n kept.frames (queue_rights hs)
           pub parent : live_at after.live n ≡ Some (record f { done = task.done + 1 })
           pub new : live_at after.live kept.frames ≡ Some (record { parent = Some n; path = task.path ++ task.children ∷ []; done = 0; holdings = hs; failed = 0 })
           pub others : (m : ℕ) → m ≢ n → m ≢ kept.frames → live_at after.live m ≡ live_at kept.live m
@@ -256,7 +246,6 @@ module _ {B L : Type 0} (G : Ghosts B L) (kept : KeptView) (mid : Mid B L) (chil
             versions = after.versions;
             reading = with-child kept.reading n (record { number = kept.frames; path = task.path ++ task.children ∷ []; done = 0 });
             live = after.live;
-            turns = after.turns;
             frames = kept.frames + 1;
           }
 
@@ -264,11 +253,10 @@ module _ {B L : Type 0} (G : Ghosts B L) (kept : KeptView) (mid : Mid B L) (chil
           abbrev then-state : QueueState
           then-state = after_spawn kept.state a kept.frames (queue_rights hs)
 
-          is-spawned : spawning.IsAfterSpawn G plan has.core.sound law kept.reading kept.state kept.turns kept.live kept.frames has.core.queues has.core.frames n f has.of.live a own-live task.path task.done top has.of.path done-so
-              has.is.alone.stands mid.local child spawn hs record-given alone kept.versions after.versions then-state after.turns after.live
+          is-spawned : spawning.IsAfterSpawn G plan has.core.sound law kept.reading kept.state kept.live kept.frames has.core.queues has.core.frames n f has.of.live a own-live task.path task.done top has.of.path done-so
+              has.is.alone.stands mid.local child spawn hs record-given alone kept.versions after.versions then-state after.live
           is-spawned = record {
             state_is = refl;
-            turns_are = is.given_turns;
             made = is.made;
             parent = is.parent;
             new = is.new ∙ ap {B = Option LiveFrame} (λ i. Some (record { parent = Some n; path = task.path ++ i ∷ []; done = 0; holdings = hs; failed = 0 })) children-so;
@@ -284,21 +272,20 @@ module _ {B L : Type 0} (G : Ghosts B L) (kept : KeptView) (mid : Mid B L) (chil
             versions = after.versions;
             reading = with-child kept.reading n new-frame;
             live = after.live;
-            turns = after.turns;
             frames = kept.frames + 1;
           }
 
-          queues-then : AreQueues s (with-child kept.reading n new-frame) then-state after.turns
+          queues-then : AreQueues s (with-child kept.reading n new-frame) then-state
           queues-then =
-              subst (λ p. AreQueues s (with-child kept.reading n p) then-state after.turns) named-frame
-              (spawning.queues-then G plan has.core.sound law kept.reading kept.state kept.turns kept.live kept.frames has.core.queues has.core.frames n f has.of.live a own-live task.path task.done top has.of.path done-so
-              has.is.alone.stands mid.local child spawn hs record-given alone back-so shallow kept.versions after.versions then-state after.turns after.live is-spawned)
+              subst (λ p. AreQueues s (with-child kept.reading n p) then-state) named-frame
+              (spawning.queues-then G plan has.core.sound law kept.reading kept.state kept.live kept.frames has.core.queues has.core.frames n f has.of.live a own-live task.path task.done top has.of.path done-so
+              has.is.alone.stands mid.local child spawn hs record-given alone back-so shallow kept.versions after.versions then-state after.live is-spawned)
 
           booked-then : AreBooked G plan (with-child kept.reading n new-frame) kept.faults
           booked-then =
               subst (λ p. AreBooked G plan (with-child kept.reading n p) kept.faults) named-frame
-              (spawning.booked-then G plan has.core.sound law kept.reading kept.state kept.turns kept.live kept.frames has.core.queues has.core.frames n f has.of.live a own-live task.path task.done top has.of.path done-so
-              has.is.alone.stands mid.local child spawn hs record-given alone back-so shallow kept.versions after.versions then-state after.turns after.live is-spawned kept.faults has.core.booked)
+              (spawning.booked-then G plan has.core.sound law kept.reading kept.state kept.live kept.frames has.core.queues has.core.frames n f has.of.live a own-live task.path task.done top has.of.path done-so
+              has.is.alone.stands mid.local child spawn hs record-given alone back-so shallow kept.versions after.versions then-state after.live is-spawned kept.faults has.core.booked)
 
           free : active kept.state kept.frames ≡ None
           free = not_active kept.state has.core.queues.tree kept.frames may-spawn.newest
@@ -341,11 +328,11 @@ module _ {B L : Type 0} (G : Ghosts B L) (kept : KeptView) (mid : Mid B L) (chil
             name = has.core.name;
             queues = queues-then;
             objects = subst (λ p. AreObjects s (with-child kept.reading n p) after.versions after.live kept.objects) named-frame
-                (spawning.objects-then G plan has.core.sound law kept.reading kept.state kept.turns kept.live kept.frames has.core.queues has.core.frames n f has.of.live a own-live task.path task.done top has.of.path done-so
-                has.is.alone.stands mid.local child spawn hs record-given alone back-so shallow kept.versions after.versions then-state after.turns after.live is-spawned kept.objects has.core.objects begun.ready);
+                (spawning.objects-then G plan has.core.sound law kept.reading kept.state kept.live kept.frames has.core.queues has.core.frames n f has.of.live a own-live task.path task.done top has.of.path done-so
+                has.is.alone.stands mid.local child spawn hs record-given alone back-so shallow kept.versions after.versions then-state after.live is-spawned kept.objects has.core.objects begun.ready);
             frames = subst (λ p. AreFrames G plan (with-child kept.reading n p) then-state after.live (kept.frames + 1)) named-frame
-                (spawning.frames-then G plan has.core.sound law kept.reading kept.state kept.turns kept.live kept.frames has.core.queues has.core.frames n f has.of.live a own-live task.path task.done top has.of.path done-so
-                has.is.alone.stands mid.local child spawn hs record-given alone back-so shallow kept.versions after.versions then-state after.turns after.live is-spawned (begun.turn a own-live));
+                (spawning.frames-then G plan has.core.sound law kept.reading kept.state kept.live kept.frames has.core.queues has.core.frames n f has.of.live a own-live task.path task.done top has.of.path done-so
+                has.is.alone.stands mid.local child spawn hs record-given alone back-so shallow kept.versions after.versions then-state after.live is-spawned (begun.turn a own-live));
             booked = booked-then;
             counted = counted-then;
           }
@@ -438,14 +425,8 @@ module _ {B L : Type 0} (G : Ghosts B L) (kept : KeptView) (mid : Mid B L) (chil
               subst (λ y. OnNext kept.name kept.state y (λ z x. NextSpawnGivesQueues z kept.state x (queue_rights held))) (sym m_is)
               (subst (λ y. OnNext kept.name kept.state n (λ z x. NextSpawnGivesQueues z kept.state x (queue_rights y))) (sym held_is) next-so)
 
-          pub rising-asked : m < number
-          rising-asked = omega (arith, number-lesser, m_is, number_is)
-
-          pub older-asked : AreOlder kept.turns number
-          older-asked = subst (AreOlder kept.turns) (sym number_is) older-turns
-
         -- what is kept once the child has what it is given
-        module _ (handed : KeptView) (same : handed ≡ record kept { name = handed.name; run = handed.run; state = handed.state; versions = handed.versions; turns = handed.turns }) where
+        module _ (handed : KeptView) (same : handed ≡ record kept { name = handed.name; run = handed.run; state = handed.state; versions = handed.versions }) where
           frames-same : handed.frames ≡ kept.frames
           frames-same = ap (λ (k : KeptView). k.frames) same
 
@@ -465,11 +446,10 @@ module _ {B L : Type 0} (G : Ghosts B L) (kept : KeptView) (mid : Mid B L) (chil
         -- Each call is made: the child was given what it is given, and then the record has both.
         pub record AreCalled (handed after : KeptView) (path : List ℕ) (out : Step B L) (m number done : ℕ) (held : List Holding) : Type 0 where
           pub made : (may : GivesObjects kept.versions m number child.gives) → AreMade may.s may.r kept.versions handed.versions may.giver number child.gives (length child.gives)
-          pub given_turns : AreGivenTurns kept.turns handed.turns m number (queue_rights held)
           pub spawned_state : (x : ActiveFrame) → active kept.state m ≡ Some x → handed.state ≡ after_spawn kept.state x number (queue_rights held)
           pub name : handed.name ≡ kept.name
           pub run : handed.run ≡ kept.run
-          pub same : handed ≡ record kept { name = handed.name; run = handed.run; state = handed.state; versions = handed.versions; turns = handed.turns }
+          pub same : handed ≡ record kept { name = handed.name; run = handed.run; state = handed.state; versions = handed.versions }
           pub path_is : path ≡ task.path ++ task.children ∷ []
           pub parent : live_at after.live m ≡ option_map (come_to (done + 1)) (live_at handed.live m)
           pub new : live_at after.live handed.frames ≡ Some (record { parent = Some m; path = path; done = 0; holdings = hs; failed = 0 })
@@ -484,14 +464,14 @@ module _ {B L : Type 0} (G : Ghosts B L) (kept : KeptView) (mid : Mid B L) (chil
         module _ (few : length child.gives ≤ GIVES_MOST) (begun : MayBegin kept n) (handed after : KeptView) (path : List ℕ) (out : Step B L) where
           module _ (are : AreCalled handed after path out n kept.frames task.done hs) where
             abbrev given-kept : KeptView
-            given-kept = record kept { state = after_spawn kept.state a kept.frames (queue_rights hs); versions = handed.versions; turns = handed.turns }
+            given-kept = record kept { state = after_spawn kept.state a kept.frames (queue_rights hs); versions = handed.versions }
 
             handed-is : handed ≡ given-kept
             handed-is =
                 are.same
-                ∙ ap {B = KeptView} (λ x. record kept { name = x; run = handed.run; state = handed.state; versions = handed.versions; turns = handed.turns }) are.name
-                ∙ ap {B = KeptView} (λ x. record kept { run = x; state = handed.state; versions = handed.versions; turns = handed.turns }) are.run
-                ∙ ap {B = KeptView} (λ x. record kept { state = x; versions = handed.versions; turns = handed.turns }) (are.spawned_state a own-live)
+                ∙ ap {B = KeptView} (λ x. record kept { name = x; run = handed.run; state = handed.state; versions = handed.versions }) are.name
+                ∙ ap {B = KeptView} (λ x. record kept { run = x; state = handed.state; versions = handed.versions }) are.run
+                ∙ ap {B = KeptView} (λ x. record kept { state = x; versions = handed.versions }) (are.spawned_state a own-live)
 
             abbrev then-noted : KeptView → List ℕ → KeptView
             then-noted h q = record h {
@@ -512,7 +492,6 @@ module _ {B L : Type 0} (G : Ghosts B L) (kept : KeptView) (mid : Mid B L) (chil
             is-made : IsSpawnMade (then-noted given-kept (task.path ++ task.children ∷ []))
             is-made = record {
               made = are.made gives-objects;
-              given_turns = are.given_turns;
               parent = are.parent ∙ ap (option_map (come_to (task.done + 1))) (live-is n ∙ has.of.live);
               new = ap (live_at after.live) (sym frames-are) ∙ are.new ∙ ap {B = Option LiveFrame} (λ q. Some (record { parent = Some n; path = q; done = 0; holdings = hs; failed = 0 })) are.path_is;
               others = λ m own_not child_not. are.others m own_not (λ is. child_not (is ∙ frames-are)) ∙ live-is m;

@@ -24,9 +24,7 @@ use Rattle.swan_model.specs.Versions.{VersionState, placed_at}
 use Rattle.swan_model.specs.VersionsFollow.{IsNewFrame, NextSpawnGivesObjects}
 use Rattle.swan_model.proofs.Elements.{found_is, option_cases}
 use Rattle.swan_model.proofs.TaskEntries.{point_is}
-use Rattle.pop_order.specs.Frames.{Frames}
 use Rattle.queues.specs.Asks.{MaySpawn}
-use Rattle.queues.specs.Turned.{AreGivenTurns}
 use Rattle.queues.proofs.Fitting.{fits_comes}
 use Rattle.queues.proofs.Lineage.{spawns_by}
 use Rattle.serial_elision.specs.Caught.{once_ended}
@@ -80,8 +78,8 @@ module _ {B L : Type 0} (G : Ghosts B L) (plan : Plan B L) (r : Reading) (state 
 
 -- ---- a spawn
 
-module _ {B L : Type 0} (G : Ghosts B L) (plan : Plan B L) (sound : IsPlan plan) (lawful : IsLawful (script G plan)) (r : Reading) (state : QueueState) (turns : Frames) (live : NumberedFrames) (frames : ℕ)
-    (queues : AreQueues (script G plan) r state turns) (are : AreFrames G plan r state live frames)
+module _ {B L : Type 0} (G : Ghosts B L) (plan : Plan B L) (sound : IsPlan plan) (lawful : IsLawful (script G plan)) (r : Reading) (state : QueueState) (live : NumberedFrames) (frames : ℕ)
+    (queues : AreQueues (script G plan) r state) (are : AreFrames G plan r state live frames)
     (n : ℕ) (f : LiveFrame) (there : live_at live n ≡ Some f) (a : ActiveFrame) (own : active state n ≡ Some a)
     (path : List ℕ) (k : ℕ) (top : Activation L) (path_is : f.path ≡ path) (done_is : f.done ≡ k) (at : StandsAt G plan path k top)
     (local : L) (child : Child L) (spawn : Spawns G plan path k top local child) (hs : List Holding) (given_is : given f.holdings child.gives ≡ Some hs) (alone : is_aliased child.gives ≡ false) where
@@ -108,15 +106,15 @@ module _ {B L : Type 0} (G : Ghosts B L) (plan : Plan B L) (sound : IsPlan plan)
   pub spawn-next : NextSpawnGivesQueues s state a (queue_rights hs)
   spawn-next =
       gives-next s lawful state queues.follow n a own r queues.fit.queues spawn.gives
-      (next-so G plan sound lawful r n f (are.told n f there) path k top path_is done_is at state turns queues a own (deed.Spawn spawn.gives) spawn.deed refl) hs child-named
+      (next-so G plan sound lawful r n f (are.told n f there) path k top path_is done_is at state queues a own (deed.Spawn spawn.gives) spawn.deed refl) hs child-named
 
   pub may-spawn : a.lent ≡ None → length path < PATH_MOST → MaySpawn state n frames (queue_rights hs)
   may-spawn back deep = record {
-    act = may-do G plan sound lawful r n f (are.told n f there) path k top path_is done_is at state turns queues a own back;
+    act = may-do G plan sound lawful r n f (are.told n f there) path k top path_is done_is at state queues a own back;
     newest = are.latest;
     lawful = gives-may s lawful state queues.follow n a own r queues.fit.queues spawn.gives
-        (next-so G plan sound lawful r n f (are.told n f there) path k top path_is done_is at state turns queues a own (deed.Spawn spawn.gives) spawn.deed refl) hs child-named child-once;
-    depth = let same = ap length (fit-now s lawful r state turns queues n path k known a own).path in omega (arith, deep, same);
+        (next-so G plan sound lawful r n f (are.told n f there) path k top path_is done_is at state queues a own (deed.Spawn spawn.gives) spawn.deed refl) hs child-named child-once;
+    depth = let same = ap length (fit-now s lawful r state queues n path k known a own).path in omega (arith, deep, same);
     few = room-children G plan state n a sound.fuel queues.follow own;
   }
 
@@ -138,7 +136,7 @@ module _ {B L : Type 0} (G : Ghosts B L) (plan : Plan B L) (sound : IsPlan plan)
   -- the child's index is the number of children so far, in the run and in the elision
   pub same-children : a.children ≡ top.children
   same-children =
-      let fit = fit-now s lawful r state turns queues n path k known a own in
+      let fit = fit-now s lawful r state queues n path k known a own in
       (queues.follow.tasks n a own).children ∙ spawns_by s a.path a.deeds (point s p) (fits_comes s a p fit).before
       ∙ ap (λ q. children_before s q (point s p)) (sym fit.path) ∙ ap (children_before s path) (point_is s p at.left) ∙ sym (children-told G plan path k top at)
 
@@ -166,24 +164,23 @@ module _ {B L : Type 0} (G : Ghosts B L) (plan : Plan B L) (sound : IsPlan plan)
   differ same = let less = lesser-number G plan r state live frames are n p known in absurd (omega (arith, less, same))
 
   reads : reading_after_spawn s r p frames ≡ with-child r n new-frame
-  reads = spawned-is s lawful r state turns queues n path k known a frames own at.left ∙ ap (λ i. with-child r n (record { number = frames; path = path ++ i ∷ []; done = 0 })) same-children
+  reads = spawned-is s lawful r state queues n path k known a frames own at.left ∙ ap (λ i. with-child r n (record { number = frames; path = path ++ i ∷ []; done = 0 })) same-children
 
   -- The core's part of queues, of objects, of frames and of faults, once the calls are made and the record has both frames.
-  pub record IsAfterSpawn (versions then_versions : VersionState) (then_state : QueueState) (then_turns : Frames) (then_live : NumberedFrames) : Type 0 where
+  pub record IsAfterSpawn (versions then_versions : VersionState) (then_state : QueueState) (then_live : NumberedFrames) : Type 0 where
     pub state_is : then_state ≡ after_spawn state a frames (queue_rights hs)
-    pub turns_are : AreGivenTurns turns then_turns n frames (queue_rights hs)
     pub made : AreMade s r versions then_versions (record { number = n; path = path; done = k }) frames child.gives (length child.gives)
     pub parent : live_at then_live n ≡ Some (record f { done = k + 1 })
     pub new : live_at then_live frames ≡ Some (record { parent = Some n; path = path ++ top.children ∷ []; done = 0; holdings = hs; failed = 0 })
     pub others : (m : ℕ) → m ≢ n → m ≢ frames → live_at then_live m ≡ live_at live m
 
-  module _ (back : a.lent ≡ None) (deep : length path < PATH_MOST) (versions then_versions : VersionState) (then_state : QueueState) (then_turns : Frames) (then_live : NumberedFrames)
-      (is : IsAfterSpawn versions then_versions then_state then_turns then_live) where
-    pub queues-then : AreQueues s (with-child r n new-frame) then_state then_turns
+  module _ (back : a.lent ≡ None) (deep : length path < PATH_MOST) (versions then_versions : VersionState) (then_state : QueueState) (then_live : NumberedFrames)
+      (is : IsAfterSpawn versions then_versions then_state then_live) where
+    pub queues-then : AreQueues s (with-child r n new-frame) then_state
     queues-then =
-        subst (λ i. AreQueues s (with-child r n (record { number = frames; path = path ++ i ∷ []; done = 0 })) then_state then_turns) same-children
-        (spawned-so s lawful r state turns queues n path k known a frames (queue_rights hs) spawn.gives then_state then_turns own spawn.deed at.left (next-unread G plan r state live frames are)
-        (may-spawn back deep) spawn-next is.state_is is.turns_are)
+        subst (λ i. AreQueues s (with-child r n (record { number = frames; path = path ++ i ∷ []; done = 0 })) then_state) same-children
+        (spawned-so s lawful r state queues n path k known a frames (queue_rights hs) spawn.gives then_state own spawn.deed at.left (next-unread G plan r state live frames are)
+        (may-spawn back deep) spawn-next is.state_is)
 
     pub objects-then : (objects : ℕ) → AreObjects s r versions live objects → WaitsForNone versions n → AreObjects s (with-child r n new-frame) then_versions then_live objects
     objects-then objects have none =

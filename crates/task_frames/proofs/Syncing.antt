@@ -77,8 +77,8 @@ module _ {B L : Type 0} (G : Ghosts B L) (kept : KeptView) (mid : Mid B L) (has 
         let same = same_Some _ below (sym told.progress ∙ has.core.queues.fit.numbers index below stands) in
         let below_path : there.0.path ≡ f.path ++ i ∷ [] = ap (λ (q : Progress). q.path) same ∙ path ∙ ap (λ q. q ++ i ∷ []) (sym has.of.path) in
         let law = lawful G kept (asking mid ask.Sync) has in
-        let child = active-child G plan law kept.reading kept.state kept.turns kept.live kept.frames has.core.queues has.core.frames n f has.of.live below.number i there.0 there.1 below_path in
-        absurd (none-active G plan law kept.reading kept.state kept.turns kept.live kept.frames has.core.queues has.core.frames n f has.of.live alone below.number child)
+        let child = active-child G plan law kept.reading kept.state kept.live kept.frames has.core.queues has.core.frames n f has.of.live below.number i there.0 there.1 below_path in
+        absurd (none-active G plan law kept.reading kept.state kept.live kept.frames has.core.queues has.core.frames n f has.of.live alone below.number child)
   ]
 
   -- each child that it has spawned has ended

@@ -57,7 +57,7 @@ module _ {B L : Type 0} (G : Ghosts B L) (kept : KeptView) (task : TaskView B L)
   -- its path is that of the active frame
   pub path-so : (own : ActiveFrame) → active kept.state task.number ≡ Some own → task.path ≡ own.path
   path-so own live_now =
-      let fit = queues.fit-now s (elision.lawful G task.plan core.sound.lists) kept.reading kept.state kept.turns core.queues task.number task.path task.since read-so own live_now in
+      let fit = queues.fit-now s (elision.lawful G task.plan core.sound.lists) kept.reading kept.state core.queues task.number task.path task.since read-so own live_now in
       fit.path
 
   module _ (stage : Stage L) (name : Option Script) (ends : LentEnds) (is : IsFrame G task name ends stage) where
@@ -111,7 +111,7 @@ module _ {B L : Type 0} (G : Ghosts B L) (kept : KeptView) (task : TaskView B L)
           record {
             sound = core.sound;
             name = core.name;
-            queues = queues.back s law kept.reading kept.state kept.turns core.queues task.number task.path task.since read-so active-so.0 many (after_back kept.state task.number ends.deeds)
+            queues = queues.back s law kept.reading kept.state core.queues task.number task.path task.since read-so active-so.0 many (after_back kept.state task.number ends.deeds)
                 active-so.1 at-now.left
                 (subst (λ path. AreByEnds s path active-so.0.deeds (deeds_among s task.path (task.since + many))) (sym (path-so active-so.0 active-so.1))
                 (subst (AreByEnds s active-so.0.path active-so.0.deeds) deeds-now (by_ends law)))
@@ -156,7 +156,7 @@ module _ {B L : Type 0} (G : Ghosts B L) (kept : KeptView) (at : FrameAtCoreView
     given-core = subst (IsCore G at.task.plan) (sym after_is) (record {
       sound = has.core.sound;
       name = has.core.name;
-      queues = queues.lent (script G at.task.plan) kept.reading kept.state kept.turns has.core.queues at.task.number a list (after_lend kept.state a list) a-live refl;
+      queues = queues.lent (script G at.task.plan) kept.reading kept.state has.core.queues at.task.number a list (after_lend kept.state a list) a-live refl;
       objects = has.core.objects;
       frames = live.lent G at.task.plan kept.reading kept.state kept.live kept.frames has.core.frames has.core.queues.tree at.task.number has.of.frame has.of.live a a-live list (after_lend kept.state a list) refl;
       booked = has.core.booked;
@@ -194,7 +194,7 @@ module _ {B L : Type 0} (G : Ghosts B L) (kept : KeptView) (at : FrameAtCoreView
 
       pub given-ends : ((i : ℕ) (end : LentEnd) → slice_get ends.list i ≡ Some end → OnQueue kept.name kept.state end.queue (λ s origin. segment_queue s end.tag ≡ Some origin)) → AreEndsOf G at.task name ends
       given-ends segments =
-          ends-are G at.task (lawful G kept at has) kept.reading kept.state kept.turns has.core.queues has.of.frame (has.core.frames.told at.task.number has.of.frame has.of.live) has.of.path
+          ends-are G at.task (lawful G kept at has) kept.reading kept.state has.core.queues has.of.frame (has.core.frames.told at.task.number has.of.frame has.of.live) has.of.path
           (has.of.done ∙ has.is.since) has.is.since has.of.holdings a a-live name ends (named ∙ has.core.name) are
           (λ i end at_i. subst (λ x. OnQueue x kept.state end.queue (λ s origin. segment_queue s end.tag ≡ Some origin)) has.core.name (segments i end at_i))
 

@@ -14,9 +14,7 @@ use Rattle.swan_model.specs.SerialState.{Activation}
 use Rattle.swan_model.specs.SerialTime.{is_queue_deed, time, times}
 use Rattle.swan_model.specs.Told.{deed_at}
 use Rattle.swan_model.specs.Versions.{IsSettled, objects_after_finish}
-use Rattle.pop_order.specs.Frames.{HasNoChild, without}
 use Rattle.queues.specs.Asks.{IsOnTurn, MayJoin, OnNext}
-use Rattle.queues.proofs.TurnsGone.{turns_childless}
 use Rattle.swan_model.specs.QueueFollows.{next_queue_deed}
 use Rattle.serial_elision.specs.Caught.{children_by, children_by_sync}
 use Rattle.serial_elision.specs.TaskSteps.{EndsTask}
@@ -109,16 +107,13 @@ module _ {B L : Type 0} (G : Ghosts B L) (kept : KeptView) where
       pub join-so : MayJoin kept.state frame.task.number
       join-so =
           let it = own G kept frame has in
-          ending.may-join G frame.task.plan (lawful G kept frame has) kept.reading kept.state kept.turns kept.live kept.frames has.core.queues has.core.frames frame.task.number has.of.frame has.of.live alone
+          ending.may-join G frame.task.plan (lawful G kept frame has) kept.reading kept.state kept.live kept.frames has.core.queues has.core.frames frame.task.number has.of.frame has.of.live alone
           it.0 it.1 (has.back it.0 it.1)
 
       pub settled-so : IsSettled kept.versions frame.task.number
       settled-so =
-          ending.may-end G frame.task.plan (lawful G kept frame has) kept.reading kept.state kept.turns kept.live kept.frames has.core.queues has.core.frames frame.task.number has.of.frame has.of.live alone
+          ending.may-end G frame.task.plan (lawful G kept frame has) kept.reading kept.state kept.live kept.frames has.core.queues has.core.frames frame.task.number has.of.frame has.of.live alone
           kept.versions kept.objects has.core.objects begun.ready
-
-      pub childless-so : HasNoChild kept.turns frame.task.number
-      childless-so = turns_childless kept.state kept.turns frame.task.number has.core.queues.turns_are join-so.alone
 
       pub over-so : (does : _) → deed_now G frame.task ≡ does → is_queue_deed does ≡ false → IsLast G frame.task → OnNext kept.name kept.state frame.task.number (λ s x. next_queue_deed s x.path x.deeds ≡ None)
       over-so does is quiet last = λ s named x live.
@@ -129,7 +124,7 @@ module _ {B L : Type 0} (G : Ghosts B L) (kept : KeptView) where
           let ends : f.done + 1 ≡ length (times (script G frame.task.plan) f.path) =
           ap (λ k. k + 1) (done-is G kept frame has) ∙ last ∙ ap (λ p. length (times (script G frame.task.plan) p)) (sym has.of.path) in
           subst (λ z. next_queue_deed z x.path x.deeds ≡ None) (same_Some (script G frame.task.plan) s (sym has.core.name ∙ named))
-          (ending.over-next G frame.task.plan (lawful G kept frame has) kept.reading kept.state kept.turns kept.live kept.frames has.core.queues has.core.frames frame.task.number f has.of.live alone
+          (ending.over-next G frame.task.plan (lawful G kept frame has) kept.reading kept.state kept.live kept.frames has.core.queues has.core.frames frame.task.number f has.of.live alone
           x live does at quiet ends)
 
 -- ---- the end that a task asks for
@@ -152,13 +147,12 @@ pub left-so : (kept after : KeptView) (n m : ℕ) → n ≡ m → after.name ≡
       versions = objects_after_finish kept.versions n;
       reading = gone_on_by kept.reading n 1;
       live = after.live;
-      turns = without kept.turns n;
     }
     → IsOnlyLive kept.live after.live n None
-    → (after ≡ record kept { state = after_finish kept.state m; versions = objects_after_finish kept.versions m; reading = gone_on_by kept.reading m 1; live = after.live; turns = without kept.turns m })
+    → (after ≡ record kept { state = after_finish kept.state m; versions = objects_after_finish kept.versions m; reading = gone_on_by kept.reading m 1; live = after.live })
     × IsOnlyLive kept.live after.live m None
 left-so kept after n m number name run is only = (
-  subst (λ x. after ≡ record kept { state = after_finish kept.state x; versions = objects_after_finish kept.versions x; reading = gone_on_by kept.reading x 1; live = after.live; turns = without kept.turns x }) number
+  subst (λ x. after ≡ record kept { state = after_finish kept.state x; versions = objects_after_finish kept.versions x; reading = gone_on_by kept.reading x 1; live = after.live }) number
       (is
       ∙ ap {B = KeptView} (λ x. record kept {
         name = x;
@@ -167,7 +161,6 @@ left-so kept after n m number name run is only = (
         versions = objects_after_finish kept.versions n;
         reading = gone_on_by kept.reading n 1;
         live = after.live;
-        turns = without kept.turns n;
       }) name
       ∙ ap {B = KeptView} (λ x. record kept {
         run = x;
@@ -175,7 +168,6 @@ left-so kept after n m number name run is only = (
         versions = objects_after_finish kept.versions n;
         reading = gone_on_by kept.reading n 1;
         live = after.live;
-        turns = without kept.turns n;
       }) run),
   subst (λ x. IsOnlyLive kept.live after.live x None) number only,
 )
@@ -189,13 +181,12 @@ pub left-over : (kept other after : KeptView) (n m : ℕ) → other ≡ kept →
       versions = objects_after_finish other.versions n;
       reading = gone_on_by other.reading n 1;
       live = after.live;
-      turns = without other.turns n;
     }
     → IsOnlyLive other.live after.live n None
-    → (after ≡ record kept { state = after_finish kept.state m; versions = objects_after_finish kept.versions m; reading = gone_on_by kept.reading m 1; live = after.live; turns = without kept.turns m })
+    → (after ≡ record kept { state = after_finish kept.state m; versions = objects_after_finish kept.versions m; reading = gone_on_by kept.reading m 1; live = after.live })
     × IsOnlyLive kept.live after.live m None
 left-over kept other after n m same number name run is only =
-    subst (λ (k : KeptView). (after ≡ record k { state = after_finish k.state m; versions = objects_after_finish k.versions m; reading = gone_on_by k.reading m 1; live = after.live; turns = without k.turns m })
+    subst (λ (k : KeptView). (after ≡ record k { state = after_finish k.state m; versions = objects_after_finish k.versions m; reading = gone_on_by k.reading m 1; live = after.live })
     × IsOnlyLive k.live after.live m None) same (left-so other after n m number name run is only)
 
 -- a step is the same whether or not its unit of fuel is taken

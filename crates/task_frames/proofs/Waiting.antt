@@ -1,5 +1,5 @@
 -- Whom a frame waits for: a live frame, which comes before it in serial order.
-use Rattle.std.proofs.Common.{◌≡◌, ◌≢◌, ◌⊎◌, inl, inr, ℕ, true, List, [], ◌∷◌, ◌++◌, Some, sym, ap, ◌∙◌}
+use Rattle.std.proofs.Common.{◌≡◌, ◌≢◌, ◌⊎◌, inl, inr, ℕ, ◌<◌, true, List, [], ◌∷◌, ◌++◌, Some, sym, ap, ◌∙◌, arith}
 use Rattle.std.proofs.lemmas.List.{same_from_push}
 use Rattle.std.proofs.lemmas.Option.{same_Some}
 use Rattle.swan_model.specs.declared.body.Body.{Ghosts}
@@ -7,24 +7,40 @@ use Rattle.swan_model.specs.declared.plan.Plan.{Plan}
 use Rattle.swan_model.specs.declared.script.Script.{Script}
 use Rattle.swan_model.specs.Lawful.{IsLawful}
 use Rattle.swan_model.specs.PathOrder.{comes_before}
-use Rattle.swan_model.specs.QueueState.{ActiveFrame, IsActiveChild, IsEarlierPusher, IsPoppingChild, QueueState, active}
+use Rattle.swan_model.specs.QueueState.{ActiveFrame, IsActiveChild, IsEarlierPusher, IsOlderPopper, IsPoppingChild, QueueState, active}
 use Rattle.swan_model.specs.Script.{script}
 use Rattle.swan_model.specs.SerialTime.{Progress, Reading}
 use Rattle.swan_model.specs.Versions.{Awaits, Placed, VersionState, owed, placed_at}
-use Rattle.swan_model.proofs.Elements.{option_cases}
-use Rattle.swan_model.proofs.PathOrder.{before-parent}
+use Rattle.swan_model.proofs.Elements.{one_answer, option_cases}
+use Rattle.swan_model.proofs.PathOrder.{before-parent, left-before, left-sibling}
 use Rattle.swan_model.proofs.Paths.{not_root}
 use Rattle.object_versions.proofs.OwnersEarlier.{owner_earlier, owner_other}
-use Rattle.pop_order.specs.Frames.{Frames}
-use Rattle.pop_order.specs.Turns.{Blocks}
+use Rattle.queues.specs.Tells.{IsBlockedBy}
+use Rattle.queues.specs.Tree.{IsTree}
+use Rattle.queues.proofs.Frames.{active_number}
 use Rattle.queues.proofs.Rereading.{fit_of}
-use Rattle.queues.proofs.TurnsTold.{blocker_before}
 use Rattle.task_frames.specs.Cores.{AreFrames, AreObjects, AreQueues}
 use Rattle.task_frames.specs.Records.{IsLiveChild, IsOldestChild, LiveFrame, NumberedFrames, live_at}
 use Rattle.task_frames.specs.Resumes.{IsLiveBefore}
 
-module _ {B L : Type 0} (G : Ghosts B L) (plan : Plan B L) (lawful : IsLawful (script G plan)) (r : Reading) (state : QueueState) (turns : Frames) (live : NumberedFrames) (frames : ℕ)
-    (queues : AreQueues (script G plan) r state turns) (are : AreFrames G plan r state live frames) where
+-- an older sibling that is active comes before, in serial order
+sibling-before : (state : QueueState) → IsTree state → (number older : ℕ) (frame : ActiveFrame) → active state number ≡ Some frame → (is : IsOlderPopper state frame older)
+    → comes_before is.older.path frame.path ≡ true
+sibling-before state tree number older frame live is =
+    let mine = tree.spawned number is.parent frame live is.of in
+    let theirs = tree.spawned older is.parent is.older is.live is.sibling in
+    let above = mine.above.path in
+    let path : is.older.path ≡ above ++ theirs.index ∷ [] =
+    theirs.path ∙ ap (λ (f : ActiveFrame). f.path ++ theirs.index ∷ []) (one_answer (active state is.parent) theirs.above mine.above theirs.live mine.live) in
+    let before = is.before in
+    let own = active_number state number frame live in
+    let less : older < number = omega (arith, before, own) in
+    let order = tree.siblings older number theirs.index mine.index is.older frame above is.live live path mine.path less in
+    ap (λ p. comes_before p frame.path) path ∙ ap (comes_before (above ++ theirs.index ∷ [])) mine.path
+    ∙ left-before (above ++ theirs.index ∷ []) (above ++ mine.index ∷ []) (left-sibling above theirs.index mine.index order)
+
+module _ {B L : Type 0} (G : Ghosts B L) (plan : Plan B L) (lawful : IsLawful (script G plan)) (r : Reading) (state : QueueState) (live : NumberedFrames) (frames : ℕ)
+    (queues : AreQueues (script G plan) r state) (are : AreFrames G plan r state live frames) where
   abbrev s : Script
   s = script G plan
 
@@ -89,10 +105,11 @@ module _ {B L : Type 0} (G : Ghosts B L) (plan : Plan B L) (lawful : IsLawful (s
         active-before m pusher.other f.path pusher.live (ap (comes_before pusher.other.path) (same-path n f a there now) ∙ pusher.earlier)
 
     -- an older sibling that keeps it from starting
-    pub blocker-live : (m : ℕ) → Blocks turns n m → IsLiveBefore live f.path m
+    pub blocker-live : (m : ℕ) → IsBlockedBy state n m → IsLiveBefore live f.path m
     blocker-live m blocks =
-        let it = blocker_before state queues.tree turns queues.turns_are n m own.0 own.1 blocks in
-        active-before m it.0 f.path it.1 (ap (comes_before it.0.path) own.2 ∙ it.2)
+        let it = blocks.by in
+        active-before m it.older f.path it.live
+        (ap (comes_before it.older.path) (same-path n f blocks.frame there blocks.live) ∙ sibling-before state queues.tree n m blocks.frame blocks.live it)
 
     -- who owes a version
     module _ (versions : VersionState) (objects : ℕ) (have : AreObjects s r versions live objects) where

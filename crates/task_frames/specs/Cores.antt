@@ -18,10 +18,8 @@ use Rattle.swan_model.specs.SerialTime.{Progress, Reading, frame_of, times}
 use Rattle.swan_model.specs.TrueFrames.{IsTrueAlone, StandsAt, give_in, gives_at}
 use Rattle.swan_model.specs.Versions.{IsSettled, Placed, VersionState, placed_at}
 use Rattle.swan_model.specs.VersionsFollow.{ObjectsFollow}
-use Rattle.pop_order.specs.Frames.{Frames}
 use Rattle.queues.specs.Asks.{IsRecorded, LentEnds}
 use Rattle.queues.specs.Tree.{IsTree}
-use Rattle.queues.specs.Turned.{AreTurns}
 use Rattle.serial_elision.specs.Bounds.{IsWithin}
 use Rattle.serial_elision.specs.Caught.{children_by, children_by_sync, failed_children}
 use Rattle.serial_elision.specs.Laws.{IsObjectOf}
@@ -42,7 +40,6 @@ pub record KeptView : Type 0 where
   -- which task, queue and object of the script each number is, and how far each frame has come
   pub reading : Reading
   pub live : NumberedFrames
-  pub turns : Frames
   -- how many frames, and how many objects, there were so far
   pub frames : ℕ
   pub objects : ℕ
@@ -58,13 +55,11 @@ pub record CoreView (B L : Type 0) : Type 0 where
 
 -- ---- what is kept of the queues
 
--- The queues follow the script and the reading. The plan's queues are the first ones, and no rest was taken. And the turns of
--- poppers are those of their frames.
-pub record AreQueues (s : Script) (r : Reading) (state : QueueState) (turns : Frames) : Type 0 where
+-- The queues follow the script and the reading. The plan's queues are the first ones, and no rest was taken.
+pub record AreQueues (s : Script) (r : Reading) (state : QueueState) : Type 0 where
   pub follow : QueuesFollow s state
   pub fit : Fits s state r
   pub tree : IsTree state
-  pub turns_are : AreTurns state turns
   pub roots : (i : ℕ) → i < length s.queues → slice_get state.makers i ≡ Some (planned i)
   pub whole : state.emptied ≡ []
 
@@ -172,7 +167,7 @@ module _ {B L : Type 0} (G : Ghosts B L) (plan : Plan B L) where
   pub record IsCore (kept : KeptView) : Type 0 where
     pub sound : IsPlan plan
     pub name : kept.name ≡ Some (script G plan)
-    pub queues : AreQueues (script G plan) kept.reading kept.state kept.turns
+    pub queues : AreQueues (script G plan) kept.reading kept.state
     pub objects : AreObjects (script G plan) kept.reading kept.versions kept.live kept.objects
     pub frames : AreFrames kept.reading kept.state kept.live kept.frames
     pub booked : AreBooked kept.reading kept.faults

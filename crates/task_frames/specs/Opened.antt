@@ -11,7 +11,6 @@ use Rattle.swan_model.specs.SerialState.{Holding}
 use Rattle.swan_model.specs.Versions.{Placed, VersionState, placed_at}
 use Rattle.swan_model.specs.VersionsFollow.{ObjectsFollow}
 use Rattle.queues.specs.Tree.{IsTree}
-use Rattle.queues.specs.Turned.{AreTurns}
 use Rattle.task_frames.specs.Cores.{KeptView}
 use Rattle.task_frames.specs.Records.{IsOnlyLive, NumberedFrames}
 
@@ -25,7 +24,6 @@ pub record AreFirstQueues (s : Script) (state : QueueState) (i : ℕ) : Type 0 w
   pub follow : QueuesFollow s state
   pub fit : (objects : List Origin) → Fits s state (at_start (roots_to i) objects)
   pub tree : IsTree state
-  pub turns_are : AreTurns state []
   pub many : length state.makers ≡ i
   pub roots : (j : ℕ) → j < i → slice_get state.makers j ≡ Some (planned j)
   pub whole : state.emptied ≡ []
@@ -51,7 +49,6 @@ pub record IsKeptAtFirst (s : Script) (queues objects : ℕ) (holdings : List Ho
   pub objects_are : AreFirstObjects s kept.versions queues objects
   pub reading : kept.reading ≡ at_start (roots_to queues) (roots_to objects)
   pub live : IsRootAlone kept.live holdings
-  pub turns : kept.turns ≡ []
   pub frames : kept.frames ≡ 1
   pub count : kept.objects ≡ objects
   pub faults : kept.faults ≡ []

@@ -13,7 +13,7 @@ use Rattle.swan_model.specs.declared.script.Deed.TheVariants as deed
 use Rattle.swan_model.specs.Elision.{root_holdings}
 use Rattle.swan_model.specs.Granted.{is_spawn}
 use Rattle.swan_model.specs.PathOrder.{comes_before}
-use Rattle.swan_model.specs.QueueState.{ActiveFrame, LentEnd, active, after_lend}
+use Rattle.swan_model.specs.QueueState.{ActiveFrame, LentEnd, QueueState, active, after_lend}
 use Rattle.swan_model.specs.Rights.{allows}
 use Rattle.swan_model.specs.Script.{script}
 use Rattle.swan_model.specs.SerialState.{Activation, Holding}
@@ -22,11 +22,9 @@ use Rattle.swan_model.specs.SerialTime.{time, times}
 use Rattle.swan_model.specs.Told.{deed_at}
 use Rattle.swan_model.specs.TrueFrames.{StandsAt}
 use Rattle.swan_model.specs.Versions.{Awaits, Placed, owed, placed_at}
-use Rattle.pop_order.specs.Frames.{Frames}
-use Rattle.pop_order.specs.Turns.{Blocks}
 use Rattle.queues.specs.declared.ends.LocalEnds.{Ghosts as EndsMeaning}
 use Rattle.queues.specs.Asks.{LentEnds}
-use Rattle.queues.specs.Tells.{IsCause}
+use Rattle.queues.specs.Tells.{IsBlockedBy, IsCause}
 use Rattle.queues.specs.declared.answers.WaitFor.{WaitFor}
 use Rattle.queues.specs.declared.answers.WaitFor.TheVariants as wait
 use Rattle.serial_elision.specs.TaskSteps.{MeetsFault}
@@ -63,9 +61,9 @@ pub data AsksOf {B L : Type 0} (frame : FrameAtCoreView B L) (queue : ℕ) : Typ
       → number_at frame.task.holdings place Pop ≡ Some queue → AsksOf frame queue
 
 -- the oldest of those that pop what a frame may not pop yet
-pub record IsFirstToBlock (turns : Frames) (number older : ℕ) : Type 0 where
-  pub blocks : Blocks turns number older
-  pub oldest : (other : ℕ) → Blocks turns number other → older ≤ other
+pub record IsFirstToBlock (state : QueueState) (number older : ℕ) : Type 0 where
+  pub blocks : IsBlockedBy state number older
+  pub oldest : (other : ℕ) → IsBlockedBy state number other → older ≤ other
 
 -- what the queues answered a frame about the queue of which it asks
 pub record IsToldToWait {B L : Type 0} (kept : KeptView) (frame : FrameAtCoreView B L) (wait_for : WaitFor) : Type 0 where
@@ -101,7 +99,7 @@ module _ {B L : Type 0} (G : Ghosts B L) where
     -- A turn to pop is waited for before the first step, where no version is, of the oldest sibling that pops what the frame pops; or
     -- where a child pops it.
     pub data WaitsForTurn (number : ℕ) : Type 0 where
-      at_start : frame.task.done ≡ 0 → WaitsForNone kept.versions frame.task.number → IsFirstToBlock kept.turns frame.task.number number → WaitsForTurn number
+      at_start : frame.task.done ≡ 0 → WaitsForNone kept.versions frame.task.number → IsFirstToBlock kept.state frame.task.number number → WaitsForTurn number
       at_pop : IsToldToWait kept frame (wait.PopTurn number) → WaitsForTurn number
 
     -- What is kept shows a wait.

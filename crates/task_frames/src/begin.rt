@@ -15,7 +15,6 @@ use crate::{
     TaskAtCore,
 };
 use object_versions::Versions;
-use pop_order::PopTurns;
 use queues::Queues;
 use std::alloc::Global;
 use std::sync::Arc;
@@ -229,7 +228,6 @@ fn kept_at_first<B: Body, Q: Queues>(
         versions,
         reading,
         live,
-        turns: PopTurns::new(alloc),
         frames: 1,
         objects: made,
         faults: Vec::new(alloc),

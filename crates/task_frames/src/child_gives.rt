@@ -1,15 +1,12 @@
 // What a child is given.
 ghost use Rattle.std.specs.Prelude.{◌≡◌, ◌<◌, Some, IfOk, OnOk, length};
 ghost use Rattle.std.specs.Option.{option_map};
-ghost use Rattle.swan_model.specs.QueueState.{ActiveFrame, MayGive};
 ghost use Rattle.swan_model.specs.SerialStep.{given};
-ghost use Rattle.queues.specs.Turned.{AreApart, AreGivenTurns, AreOlder};
 ghost use Rattle.task_frames.specs.Giving.{AreMade, GivesObjects, queue_rights};
 
 use crate::Holding;
 use crate::holding::number_at;
 use object_versions::Versions;
-use pop_order::PopTurns;
 use queues::QueueGive;
 use std::alloc::Global;
 use swan_model::{Gives, NoMemory};
@@ -72,26 +69,6 @@ pub fn give_objects(
             versions.access(parent, give.place, child, place, give.mode)?;
         }
         place += 1;
-    }
-    Ok(())
-}
-
-/// Enlists a child for each queue that it is given. Err is want of memory, and nothing is said of the turns after it.
-/// `O(g log n)` for g gives.
-pub fn enlist_all(
-    turns: &mut PopTurns,
-    parent: u64,
-    child: u64,
-    gives: &[QueueGive],
-) -> Result<(), NoMemory>
-    requires rising { parent < child }
-    requires older { AreOlder turns.old child }
-    requires apart { AreApart turns.old }
-    requires gives { (giver : ActiveFrame) × MayGive giver gives.now }
-    ensures given { OnOk result (AreGivenTurns turns.old turns.new parent child gives.now) }
-{
-    for give in gives {
-        turns.enlist(parent, child, give.queue, give.mode)?;
     }
     Ok(())
 }

@@ -4,7 +4,6 @@ ghost use Rattle.swan_model.specs.declared.body.Ask.TheVariants as ask;
 ghost use Rattle.swan_model.specs.QueueFollows.{next_queue_deed};
 ghost use Rattle.swan_model.specs.QueueState.{after_finish};
 ghost use Rattle.swan_model.specs.Versions.{IsSettled, objects_after_finish};
-ghost use Rattle.pop_order.specs.Frames.{HasNoChild, without};
 ghost use Rattle.queues.specs.Asks.{IsOnTurn, MayJoin, OnNext};
 ghost use Rattle.swan_model.specs.Readings.{gone_on};
 ghost use Rattle.task_frames.specs.Cores.{HasIt, MayBegin, asking};
@@ -93,7 +92,7 @@ impl<Q: Queues> Kept<Q> {
     }
 
     /// Gives up what is kept of a frame that has taken its last step: first its versions get their values, then the queues
-    /// hear of its end, and then it leaves the turns and the record. Err is want of memory. `O(k log n)` for k places, and what
+    /// hear of its end, and then it leaves the record. Err is want of memory. `O(k log n)` for k places, and what
     /// `Queues::finish` costs.
     pub fn leave(&mut self, number: u64) -> Result<(), NoMemory>
         // what may end
@@ -104,9 +103,6 @@ impl<Q: Queues> Kept<Q> {
         // where there is a script
         requires turn { IsOnTurn self.old.name self.old.state number }
         requires over { OnNext self.old.name self.old.state number (λ s own. next_queue_deed s own.path own.deeds ≡ None) }
-
-        // that no child of it is active
-        requires alone { HasNoChild self.old.turns number }
 
         // what it leaves
         ensures live { OnOk result (IsOnlyLive self.old.live self.new.live number None) }
@@ -119,12 +115,10 @@ impl<Q: Queues> Kept<Q> {
           versions = objects_after_finish self.old.versions number;
           reading = gone_on self.old.reading number;
           live = self.new.live;
-          turns = without self.old.turns number;
         }) }
     {
         self.versions.finish(number)?;
         self.queues.finish(number);
-        self.turns.back(number);
         self.live.leave(number);
         self.reading = self.reading.gone_on_by(number, 1);
         Ok(())

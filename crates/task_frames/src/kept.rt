@@ -5,7 +5,6 @@ ghost use Rattle.task_frames.specs.Resumes.{AreOfPlan, HasLent, HaveCome, IsAnsw
 
 use crate::{Frame, FrameAtCore, KeptReading, LiveRecord, Resumed, Step, Steps, Waited};
 use object_versions::Versions;
-use pop_order::PopTurns;
 use queues::Queues;
 use std::marker::Model;
 use swan_model::{Body, Fault, Meaning, Plan};
@@ -21,8 +20,6 @@ pub struct Kept<Q: Queues> {
     pub reading: KeptReading,
     /// Its live frames, each as it was last given.
     pub live: LiveRecord,
-    /// The turns of those that pop, beside those that a form of queues may keep for itself.
-    pub turns: PopTurns,
     /// How many frames there were so far.
     pub frames: u64,
     /// How many objects were made so far.
@@ -43,7 +40,6 @@ impl<Q: Queues> Model for Kept<Q> {
       versions = k.versions;
       reading = k.reading;
       live = k.live;
-      turns = k.turns;
       frames = k.frames;
       objects = k.objects;
       faults = k.faults.items;

@@ -12,7 +12,6 @@ ghost use Rattle.swan_model.specs.Rights.{is_aliased};
 ghost use Rattle.swan_model.specs.SerialStep.{given};
 ghost use Rattle.queues.specs.Asks.{IsOnTurn, MaySpawn, OnActive, OnNext};
 ghost use Rattle.swan_model.specs.Readings.{gone_on};
-ghost use Rattle.queues.specs.Turned.{AreApart, AreGivenTurns, AreOlder};
 ghost use Rattle.task_frames.specs.declared.stage.Stage.TheVariants.{Ready};
 ghost use Rattle.task_frames.specs.declared.step.Step.TheVariants as step;
 ghost use Rattle.task_frames.specs.Cores.{HasIt, MayBegin, asking};
@@ -20,7 +19,7 @@ ghost use Rattle.task_frames.specs.Giving.{AreMade, GivesObjects, queue_rights};
 ghost use Rattle.task_frames.specs.Records.{come_to, live_at};
 ghost use Rattle.task_frames.specs.Resumes.{IsStep};
 
-use crate::child_gives::{enlist_all, give_objects, given, queue_gives};
+use crate::child_gives::{give_objects, given, queue_gives};
 use crate::{FrameAtCore, Holding, Kept, LiveFrame, MidStep, Stage, Step, TaskAtCore};
 use queues::Queues;
 use serial_elision::is_aliased;
@@ -219,15 +218,9 @@ impl<Q: Queues> Kept<Q> {
         requires turn { IsOnTurn self.old.name self.old.state parent }
         requires next { OnNext self.old.name self.old.state parent (λ s f. NextSpawnGivesQueues s self.old.state f (queue_rights held.now)) }
 
-        // what the turns of those that pop allow
-        requires rising { parent < child }
-        requires older { AreOlder self.old.turns child }
-        requires apart { AreApart self.old.turns }
-
         // what it leaves
         ensures made { OnOk result ((may : GivesObjects self.old.versions parent child gives.now)
             → AreMade may.s may.r self.old.versions self.new.versions may.giver child gives.now (length gives.now)) }
-        ensures turns { OnOk result (AreGivenTurns self.old.turns self.new.turns parent child (queue_rights held.now)) }
         ensures state { OnOk result (OnActive self.old.state parent (λ f. self.new.state ≡ after_spawn self.old.state f child (queue_rights held.now))) }
         ensures name { OnOk result (self.new.name ≡ self.old.name) }
         ensures run { OnOk result (self.new.run ≡ self.old.run) }
@@ -236,13 +229,11 @@ impl<Q: Queues> Kept<Q> {
           run = self.new.run;
           state = self.new.state;
           versions = self.new.versions;
-          turns = self.new.turns;
         }) }
     {
         give_objects(&mut self.versions, parent, child, gives)?;
         let queues = queue_gives(alloc, held)?;
         self.queues.spawn(parent, child, queues.as_slice())?;
-        enlist_all(&mut self.turns, parent, child, queues.as_slice())?;
         Ok(())
     }
 

@@ -63,8 +63,8 @@ impl<Q: Queues> Kept<Q> {
     }
 
     /// What a frame has to wait for before its first step: a version that it was given to read and that is owed, or
-    /// else an older sibling that pops what it pops. None where it has taken a step. `O(k log n)` for k places; it
-    /// takes no memory.
+    /// else an older sibling that pops what it pops. None where it has taken a step. `O(k log n)` for k places, and what
+    /// `Queues::may_start` costs; it takes no memory.
     fn first_wait<B: Body>(&self, frame: &FrameAtCore<B>) -> Option<WaitFor>
         requires has { HasIt B.Body self.now frame.now }
         ensures shown { IfSome result (IsShown B.Body self.now frame.now) }
@@ -79,7 +79,7 @@ impl<Q: Queues> Kept<Q> {
         if let Err(owing) = self.versions.ready(number) {
             return Some(WaitFor::Version(owing));
         }
-        match self.turns.may_start(number) {
+        match self.queues.may_start(number) {
             Ok(()) => None,
             Err(older) => Some(WaitFor::PopTurn(older)),
         }

@@ -16,5 +16,5 @@ returns g c =
     let sorted = c.sort_unstable_by.ensures.sorted is_earlier_fault faults-compare (always_returns_same _ (λ a r. is_lt r ≡ is_earlier_fault a.0.now a.1.0.now) _ (λ a r q k. search rules)) in
     let same : IsPermutation c.args.faults.items c.sort_unstable_by.new.self.items = c.sort_unstable_by.ensures.permutation in
     c.from_vec.ensures
-    ∙ faults-left g.B.Body plan (lawful g.B.Body plan core.sound.lists) kept.reading kept.state kept.turns kept.live kept.frames core.queues core.frames c.requires.kept.2 kept.faults c.sort_unstable_by.new.self.items core.booked
+    ∙ faults-left g.B.Body plan (lawful g.B.Body plan core.sound.lists) kept.reading kept.state kept.live kept.frames core.queues core.frames c.requires.kept.2 kept.faults c.sort_unstable_by.new.self.items core.booked
     (subst (λ (old : List Fault). IsPermutation old c.sort_unstable_by.new.self.items) c.requires.kept.3 same) sorted

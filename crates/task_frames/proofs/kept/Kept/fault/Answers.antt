@@ -1,5 +1,4 @@
 use Rattle.std.proofs.Common.{◌≡◌, None, Some, inr, refl, sym, subst, IsSome}
-use Rattle.pop_order.specs.Frames.{HasNoChild}
 use Rattle.queues.specs.Asks.{IsOnTurn, MayJoin, OnNext}
 use Rattle.swan_model.specs.declared.script.Deed.TheVariants as deed
 use Rattle.swan_model.specs.QueueFollows.{next_queue_deed}
@@ -10,7 +9,7 @@ use Rattle.task_frames.proofs.Goings.{live-here}
 use Rattle.task_frames.proofs.Endings.{ends-faulty}
 use Rattle.task_frames.proofs.Firsts.{waits-oldest}
 use Rattle.task_frames.proofs.Given.{over}
-use Rattle.task_frames.proofs.Tried.{childless-so, fault-last, join-so, left-over, on-turn-so, over-so, room-so, settled-so}
+use Rattle.task_frames.proofs.Tried.{fault-last, join-so, left-over, on-turn-so, over-so, room-so, settled-so}
 use Rattle.task_frames.proofs.kept.Kept.fault.Goals as goal
 
 pub returns-in-Some-clause-step : goal.returns-in-Some-clause-step
@@ -52,11 +51,6 @@ leave-requires-clause-over g c κs within =
     let moved = c.in_ok-book.ensures.booked in
     over (λ k n. OnNext k.name k.state n (λ s x. next_queue_deed s x.path x.deeds ≡ None)) _ _ _ _ moved c.number-number.ensures
     (over-so g.B.Body _ _ has c.requires.begun (over (λ k n. (m : _) → ¬ IsLiveChild k.live n m) _ _ _ _ (sym c.self.view_is) (sym c.number-number.ensures) c.in_default.ensures.none) deed.Quiet (c.requires.faults has.is.alone.top has.is.alone.stands).0.deed refl (fault-last g.B.Body _ _ has c.args.at c.args.kind c.requires.faults))
-
-pub leave-requires-clause-alone : goal.leave-requires-clause-alone
-leave-requires-clause-alone g c κs within =
-    let moved = c.in_ok-book.ensures.booked in
-    over (λ k n. HasNoChild k.turns n) _ _ _ _ moved c.number-number.ensures (childless-so g.B.Body _ _ c.requires.has c.requires.begun (over (λ k n. (m : _) → ¬ IsLiveChild k.live n m) _ _ _ _ (sym c.self.view_is) (sym c.number-number.ensures) c.in_default.ensures.none))
 
 pub returns-clause-step : goal.returns-clause-step
 returns-clause-step g c =

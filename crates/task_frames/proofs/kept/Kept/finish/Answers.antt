@@ -1,5 +1,4 @@
 use Rattle.std.proofs.Common.{◌≡◌, None, inr, refl, sym, subst, IsSome}
-use Rattle.pop_order.specs.Frames.{HasNoChild}
 use Rattle.queues.specs.Asks.{IsOnTurn, MayJoin, OnNext}
 use Rattle.swan_model.specs.declared.script.Deed.TheVariants as deed
 use Rattle.swan_model.specs.QueueFollows.{next_queue_deed}
@@ -9,7 +8,7 @@ use Rattle.task_frames.proofs.Goings.{live-here}
 use Rattle.task_frames.proofs.Endings.{ends-quietly}
 use Rattle.task_frames.proofs.Firsts.{waits-oldest}
 use Rattle.task_frames.proofs.Given.{over}
-use Rattle.task_frames.proofs.Tried.{childless-so, finish-ends, finish-last, join-so, left-so, on-turn-so, over-so, settled-so}
+use Rattle.task_frames.proofs.Tried.{finish-ends, finish-last, join-so, left-so, on-turn-so, over-so, settled-so}
 use Rattle.task_frames.proofs.kept.Kept.finish.Goals as goal
 
 pub returns-in-Some-clause-step : goal.returns-in-Some-clause-step
@@ -39,10 +38,6 @@ pub leave-requires-clause-over : goal.leave-requires-clause-over
 leave-requires-clause-over g c κs within =
     subst (λ n. OnNext c.args.self.now.name c.args.self.now.state n (λ s x. next_queue_deed s x.path x.deeds ≡ None)) (sym c.number-number.ensures)
     (over-so g.B.Body _ _ c.requires.has c.requires.begun (over (λ k n. (m : _) → ¬ IsLiveChild k.live n m) _ _ _ _ (sym c.self.view_is) (sym c.number-number.ensures) c.in_default.ensures.none) deed.Quiet (finish-ends g.B.Body _ _ c.requires.has).deed refl (finish-last g.B.Body _ _ c.requires.has))
-
-pub leave-requires-clause-alone : goal.leave-requires-clause-alone
-leave-requires-clause-alone g c κs within =
-    subst (HasNoChild c.args.self.now.turns) (sym c.number-number.ensures) (childless-so g.B.Body _ _ c.requires.has c.requires.begun (over (λ k n. (m : _) → ¬ IsLiveChild k.live n m) _ _ _ _ (sym c.self.view_is) (sym c.number-number.ensures) c.in_default.ensures.none))
 
 pub returns-clause-step : goal.returns-clause-step
 returns-clause-step g c =

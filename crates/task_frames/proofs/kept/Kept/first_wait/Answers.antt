@@ -2,7 +2,7 @@ use Rattle.std.proofs.Common.{◌≡◌, ◌<◌, ◌≤◌, true, rules, sym, s
 use Rattle.swan_model.specs.declared.rights.Mode.TheVariants.{In}
 use Rattle.swan_model.specs.Rights.{allows}
 use Rattle.swan_model.specs.Versions.{Awaits}
-use Rattle.pop_order.specs.Turns.{Blocks}
+use Rattle.queues.specs.Tells.{IsBlockedBy}
 use Rattle.object_versions.specs.Following.{WaitsForNone}
 use Rattle.task_frames.proofs.Firsts.{awaited-before, begun-so, blocked-before, may-begin, waits-awaited, waits-blocked}
 use Rattle.task_frames.proofs.Given.{over}
@@ -25,11 +25,11 @@ returns-in-Err-clause-earlier g c =
 pub returns-in-Ok-clause-begun : goal.returns-in-Ok-clause-begun
 returns-in-Ok-clause-begun g c =
     may-begin g.B.Body _ _ c.requires.has (over (λ k n. WaitsForNone k.versions n) _ _ _ _ (sym c.self.view_is) (sym c.number-number.ensures) c.in_default.ensures.ok)
-    (over (λ k n. (older : _) → ¬ Blocks k.turns n older) _ _ _ _ (sym c.self.view_is) (sym c.number-number.ensures) c.in-Ok.ensures.ok)
+    (over (λ k n. (older : _) → ¬ IsBlockedBy k.state n older) _ _ _ _ (sym c.self.view_is) (sym c.number-number.ensures) c.in-Ok.ensures.ok)
 
 pub returns-in-Err-may_start-clause-earlier : goal.returns-in-Err-may_start-clause-earlier
 returns-in-Err-may_start-clause-earlier g c =
-    blocked-before g.B.Body _ _ c.requires.has c.in-Err-may_start.older (over (λ k n. Blocks k.turns n c.in-Err-may_start.older) _ _ _ _ (sym c.self.view_is) (sym c.number-number.ensures) c.in-Err-may_start.ensures.blocks)
+    blocked-before g.B.Body _ _ c.requires.has c.in-Err-may_start.older (over (λ k n. IsBlockedBy k.state n c.in-Err-may_start.older) _ _ _ _ (sym c.self.view_is) (sym c.number-number.ensures) c.in-Err-may_start.ensures.blocked)
 
 pub returns-in-Err-may_start-clause-shown : goal.returns-in-Err-may_start-clause-shown
 returns-in-Err-may_start-clause-shown g c =
@@ -37,6 +37,6 @@ returns-in-Err-may_start-clause-shown g c =
     waits-blocked g.B.Body _ _ c.requires.has c.done-done.result older c.done-done.ensures (search rules)
     (over (λ k n. WaitsForNone k.versions n) _ _ _ _ (sym c.self.view_is) (sym c.number-number.ensures) c.in_default.ensures.ok)
     (record {
-      blocks = over (λ k n. Blocks k.turns n older) _ _ _ _ (sym c.self.view_is) (sym c.number-number.ensures) c.in-Err-may_start.ensures.blocks;
-      oldest = over (λ k n. (other : _) → Blocks k.turns n other → older ≤ other) _ _ _ _ (sym c.self.view_is) (sym c.number-number.ensures) c.in-Err-may_start.ensures.oldest;
+      blocks = over (λ k n. IsBlockedBy k.state n older) _ _ _ _ (sym c.self.view_is) (sym c.number-number.ensures) c.in-Err-may_start.ensures.blocked;
+      oldest = over (λ k n. (other : _) → IsBlockedBy k.state n other → older ≤ other) _ _ _ _ (sym c.self.view_is) (sym c.number-number.ensures) c.in-Err-may_start.ensures.oldest;
     })

@@ -1,5 +1,4 @@
-use Rattle.std.proofs.Common.{length, sym, subst, ◌∙◌}
-use Rattle.swan_model.specs.QueueState.{MayGive}
+use Rattle.std.proofs.Common.{length, sym, subst}
 use Rattle.queues.specs.Asks.{IsOnTurn}
 use Rattle.task_frames.specs.Cores.{KeptView}
 use Rattle.task_frames.specs.Giving.{AreMade, GivesObjects}
@@ -7,11 +6,6 @@ use Rattle.task_frames.proofs.kept.Kept.hand_over.Goals as goal
 
 pub spawn-requires-clause-turn : goal.spawn-requires-clause-turn
 spawn-requires-clause-turn g c = subst (λ (k : KeptView). IsOnTurn k.name k.state c.args.parent) (sym c.self.view_is) c.requires.turn
-
-pub enlist_all-requires-clause-gives : goal.enlist_all-requires-clause-gives
-enlist_all-requires-clause-gives g c =
-    let giver = c.requires.may.act.frame in
-    (giver, subst (MayGive giver) (sym (c.as_slice-2.ensures.value ∙ c.in_ok-queues.ensures)) c.requires.may.lawful)
 
 pub returns-clause-made : goal.returns-clause-made
 returns-clause-made g c =

@@ -3,7 +3,7 @@ use Rattle.task_frames.specs.Records.{live_at}
 use Rattle.task_frames.proofs.Asked.{steps-few}
 use Rattle.task_frames.proofs.Given.{over}
 use Rattle.task_frames.proofs.Goings.{live-here}
-use Rattle.task_frames.proofs.SpawnStep.{free-then, next-asked, objects-asked, older-asked, rising-asked, rising-then, room-then, spawn-asked, step-so, turn-asked}
+use Rattle.task_frames.proofs.SpawnStep.{free-then, next-asked, objects-asked, rising-then, room-then, spawn-asked, step-so, turn-asked}
 use Rattle.std.proofs.Common.{◌<◌, IsSome, sym, subst}
 use Rattle.swan_model.specs.Values.{COUNT_MOST}
 use Rattle.task_frames.proofs.kept.Kept.make_child.Goals as goal
@@ -23,14 +23,6 @@ hand_over-requires-clause-turn g c κs within =
 pub hand_over-requires-clause-next : goal.hand_over-requires-clause-next
 hand_over-requires-clause-next g c κs within =
     next-asked g.B.Body _ c.args.mid c.args.child c.requires.has _ c.requires.given c.requires.alone c.requires.shallow c.requires.cheap _ _ _ c.number-parent.ensures c.next_number-number.ensures c.as_slice.ensures.value
-
-pub hand_over-requires-clause-rising : goal.hand_over-requires-clause-rising
-hand_over-requires-clause-rising g c κs within =
-    rising-asked g.B.Body _ c.args.mid c.args.child c.requires.has _ c.requires.given c.requires.alone c.requires.shallow c.requires.cheap _ _ _ c.number-parent.ensures c.next_number-number.ensures c.as_slice.ensures.value
-
-pub hand_over-requires-clause-older : goal.hand_over-requires-clause-older
-hand_over-requires-clause-older g c κs within =
-    older-asked g.B.Body _ c.args.mid c.args.child c.requires.has _ c.requires.given c.requires.alone c.requires.shallow c.requires.cheap _ _ _ c.number-parent.ensures c.next_number-number.ensures c.as_slice.ensures.value
 
 pub note_child-requires-clause-live : goal.note_child-requires-clause-live
 note_child-requires-clause-live g c κs within =
@@ -63,7 +55,6 @@ returns-clause-step g c =
     _ _ _ _ c.number-parent.ensures c.next_number-number.ensures c.done.ensures c.as_slice.ensures.value
     (record {
       made = c.in_ok-hand_over.ensures.made;
-      given_turns = c.in_ok-hand_over.ensures.turns;
       spawned_state = c.in_ok-hand_over.ensures.state;
       name = c.in_ok-hand_over.ensures.name;
       run = c.in_ok-hand_over.ensures.run;

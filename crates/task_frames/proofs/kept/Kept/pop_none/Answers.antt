@@ -3,7 +3,6 @@ use Rattle.swan_model.specs.declared.rights.Mode.TheVariants.{Pop}
 use Rattle.swan_model.specs.declared.script.Deed.TheVariants as deed
 use Rattle.swan_model.specs.QueueFollows.{IsNextAbout, next_item, next_queue_deed}
 use Rattle.swan_model.specs.Versions.{IsSettled}
-use Rattle.pop_order.specs.Frames.{HasNoChild}
 use Rattle.queues.specs.Asks.{IsOnTurn, MayJoin, MayUse, OnActive, OnNext}
 use Rattle.queues.specs.Tells.{FindsItem, IsCause, OnQueue}
 use Rattle.task_frames.specs.Records.{HasOneFailed, HasRoomForOne, IsLiveChild, IsOldestChild, LiveFrame, live_at}
@@ -13,7 +12,7 @@ use Rattle.task_frames.proofs.AtQueues.{dry-ends, dry-join, dry-kept, dry-over, 
 use Rattle.task_frames.proofs.Firsts.{waits-oldest}
 use Rattle.task_frames.specs.Resumes.{to_pop}
 use Rattle.task_frames.proofs.Given.{over}
-use Rattle.task_frames.proofs.Tried.{childless-so, left-over, room-so, settled-so}
+use Rattle.task_frames.proofs.Tried.{left-over, room-so, settled-so}
 use Rattle.task_frames.proofs.kept.Kept.pop_none.Goals as goal
 
 pub returns-in-Some-clause-step : goal.returns-in-Some-clause-step
@@ -77,12 +76,6 @@ leave-requires-clause-over g c κs within =
     let moved = dry-kept _ c.args.self.now c.book.new.self _ _ _ _ _ _ c.self.view_is c.number-number.ensures c.in-Empty.ensures.same.0 c.in-Empty.ensures.same.1 c.in-Empty.ensures.after c.in_ok-book-in-Empty.ensures.booked in
     over (λ k n. OnNext k.name k.state n (λ s y. next_queue_deed s y.path y.deeds ≡ None)) _ _ _ _ moved c.number-number.ensures
     (dry-over g.B.Body _ _ _ c.requires.has c.args.queue c.requires.at c.requires.begun alone c.requires.none)
-
-pub leave-requires-clause-alone : goal.leave-requires-clause-alone
-leave-requires-clause-alone g c κs within =
-    let alone = over (λ k n. (m : _) → ¬ IsLiveChild k.live n m) _ _ _ _ (sym c.self.view_is) (sym c.number-number.ensures) c.in_default.ensures.none in
-    let moved = dry-kept _ c.args.self.now c.book.new.self _ _ _ _ _ _ c.self.view_is c.number-number.ensures c.in-Empty.ensures.same.0 c.in-Empty.ensures.same.1 c.in-Empty.ensures.after c.in_ok-book-in-Empty.ensures.booked in
-    over (λ k n. HasNoChild k.turns n) _ _ _ _ moved c.number-number.ensures (childless-so g.B.Body _ _ c.requires.has c.requires.begun alone)
 
 pub returns-in_ok-leave-in-Empty-clause-step : goal.returns-in_ok-leave-in-Empty-clause-step
 returns-in_ok-leave-in-Empty-clause-step g c =
