@@ -4,6 +4,7 @@ ghost use Rattle.task_frames.specs.Resumes.{ends_of};
 ghost use Rattle.swan_runtime.specs.Turned.{is_last};
 ghost use Rattle.swan_runtime.specs.Workers.{AreWorkers, OneHasMet};
 
+use crate::noting::NotingGate;
 use crate::plans::{failing_plan, plan};
 use crate::runs::{Row, is_elided, is_said_and_elided, is_stopped, shape_of, texts_of};
 use crate::tables::Tasks;
@@ -14,7 +15,7 @@ use serial_elision::Printed;
 use std::alloc::Global;
 use std::test::Fail;
 use swan_model::{Body, NoMemory, Plan};
-use swan_outside::OpenGate;
+use swan_outside::{Gate, OpenGate};
 use swan_runtime::{Shape, Turn, Worker, close, open};
 use task_frames::RunOutcome;
 
@@ -66,14 +67,47 @@ impl Hand {
     }
 }
 
-/// Lets the worker at this place take a turn.
-fn turn_of<B: Body, Q: Queues>(alloc: Global, workers: &mut Vec<Worker<B, Q>>, at: usize) -> Turn
+/// A turn of the worker at this place, with a frame of a task so deep, which has so many older siblings.
+#[derive(Clone, Copy)]
+pub struct Entry {
+    at: usize,
+    depth: u64,
+    child: u64,
+}
+
+impl Entry {
+    /// The worker at this place goes on with the root.
+    pub fn of_root(at: usize) -> Entry {
+        Entry {
+            at,
+            depth: 0,
+            child: 0,
+        }
+    }
+
+    /// The worker at this place goes on with this child of the root.
+    pub fn of_child(at: usize, child: u64) -> Entry {
+        Entry {
+            at,
+            depth: 1,
+            child,
+        }
+    }
+}
+
+/// Lets the worker at this place take a turn, through this gate.
+fn turn_of<B: Body, Q: Queues, G: Gate>(
+    alloc: Global,
+    workers: &mut Vec<Worker<B, Q>>,
+    at: usize,
+    gate: &G,
+) -> Turn
     requires workers { AreWorkers (ends_of Q.Ends.LocalEnds) workers.old.items }
     requires within { at < length workers.old.items }
     ensures workers { AreWorkers (ends_of Q.Ends.LocalEnds) workers.new.items }
     ensures met { is_last result ≡ true → OneHasMet workers.new.items }
 {
-    workers[at].turn(alloc, &OpenGate)
+    workers[at].turn(alloc, gate)
 }
 
 /// The turn of this index told this. Err names it where it told something else.
@@ -84,7 +118,25 @@ fn is_told(came: Told, told: Told, index: usize) -> Result<(), Fail> {
     Ok(())
 }
 
-/// Takes this turn, which is the one of this index. Err names it where it tells something else.
+/// A turn of the worker at this place that told this has entered the gate so: by its own number where it came to a frame, and not at all where it had
+/// none. Err names the turn, by its index, where that isn't so.
+fn has_entered(gate: &NotingGate, came: Told, at: usize, index: usize) -> Result<(), Fail> {
+    let is_right = match came {
+        Told::Stepped(_) => gate.is_entered_by(at),
+        Told::NotYet(_) => gate.is_entered_by(at),
+        Told::Strange => gate.is_entered_by(at),
+        Told::Idle => gate.is_fresh(),
+        Told::Done => gate.is_fresh(),
+        Told::Busy => true,
+        Told::NoMemory => true,
+    };
+    if !is_right {
+        return Err(Fail::new(format_args!("turn {index} entered the gate otherwise")));
+    }
+    Ok(())
+}
+
+/// Takes this turn, which is the one of this index. Err names it where it tells something else, or enters the gate otherwise.
 fn take_one<B: Body, Q: Queues>(
     alloc: Global,
     workers: &mut Vec<Worker<B, Q>>,
@@ -97,11 +149,10 @@ fn take_one<B: Body, Q: Queues>(
     if turn.at >= workers.len() {
         return Err(Fail::new(format_args!("no worker at turn {index}")));
     }
-    is_told(
-        Told::of(&turn_of(alloc, workers, turn.at)),
-        turn.told,
-        index,
-    )
+    let gate = NotingGate::new();
+    let came = Told::of(&turn_of(alloc, workers, turn.at, &gate));
+    is_told(came, turn.told, index)?;
+    has_entered(&gate, came, turn.at, index)
 }
 
 /// Takes these turns. Err names the first one that tells something else.
@@ -119,13 +170,54 @@ fn take_turns<B: Body, Q: Queues>(
     Ok(())
 }
 
+/// The gate was entered so. Err names the turn of this index where it was entered otherwise.
+fn is_entered_so(gate: &NotingGate, entry: Entry, index: usize) -> Result<(), Fail> {
+    if !gate.is_entered_by(entry.at) || !gate.is_entered_for(entry.depth, entry.child) {
+        return Err(Fail::new(format_args!("turn {index} entered the gate otherwise")));
+    }
+    Ok(())
+}
+
+/// Takes the turn of this index, which enters the gate so. Err names it where it enters the gate otherwise.
+fn enter_one<B: Body, Q: Queues>(
+    alloc: Global,
+    workers: &mut Vec<Worker<B, Q>>,
+    entry: Entry,
+    index: usize,
+) -> Result<(), Fail>
+    requires workers { AreWorkers (ends_of Q.Ends.LocalEnds) workers.old.items }
+    ensures workers { AreWorkers (ends_of Q.Ends.LocalEnds) workers.new.items }
+{
+    if entry.at >= workers.len() {
+        return Err(Fail::new(format_args!("no worker at turn {index}")));
+    }
+    let gate = NotingGate::new();
+    drop(turn_of(alloc, workers, entry.at, &gate));
+    is_entered_so(&gate, entry, index)
+}
+
+/// Takes turns that enter the gate so. Err names the first one that enters it otherwise.
+fn enter_all<B: Body, Q: Queues>(
+    alloc: Global,
+    workers: &mut Vec<Worker<B, Q>>,
+    entries: &[Entry],
+) -> Result<(), Fail>
+    requires workers { AreWorkers (ends_of Q.Ends.LocalEnds) workers.old.items }
+    ensures workers { AreWorkers (ends_of Q.Ends.LocalEnds) workers.new.items }
+{
+    for index in 0..entries.len() {
+        enter_one(alloc, workers, entries[index], index)?;
+    }
+    Ok(())
+}
+
 /// Whether the next turn of the first worker meets the end.
 fn meets_end<B: Body, Q: Queues>(alloc: Global, workers: &mut Vec<Worker<B, Q>>) -> bool
     requires workers { AreWorkers (ends_of Q.Ends.LocalEnds) workers.old.items }
     ensures workers { AreWorkers (ends_of Q.Ends.LocalEnds) workers.new.items }
     ensures met { result ≡ true → OneHasMet workers.new.items }
 {
-    turn_of(alloc, workers, 0).is_last()
+    turn_of(alloc, workers, 0, &OpenGate).is_last()
 }
 
 /// Gives up the workers of a run that goes on, and says so.
@@ -225,6 +317,20 @@ pub fn leave_row_by_hands(
 ) -> Result<(), Fail> {
     let left = left_by_hands(alloc, row.tasks, row.fuel, workers, turns)?;
     is_said_and_elided(alloc, row, &left)
+}
+
+/// In a run of these tasks by so many workers these turns enter the gate so. The run goes no further.
+pub fn enter_by_hands(
+    alloc: Global,
+    tasks: &Tasks<'_>,
+    workers: u32,
+    entries: &[Entry],
+) -> Result<(), Fail> {
+    let shape = shape_of(workers)?;
+    let mut workers = open(alloc, plan(alloc, tasks.tasks, tasks.fuel)?, &shape)?;
+    let came = enter_all(alloc, &mut workers, entries);
+    drop(workers);
+    came
 }
 
 /// By these turns of so many workers a run of these tasks, in which no memory is found at one index of the list of all asks, is stopped. The

@@ -20,6 +20,8 @@ mod local_steps;
 #[cfg(test)]
 mod meeting;
 #[cfg(test)]
+mod noting;
+#[cfg(test)]
 mod order_tests;
 #[cfg(test)]
 mod orders;

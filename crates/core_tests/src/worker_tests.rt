@@ -1,5 +1,7 @@
 // Plans by several workers: in threads, and turn by turn.
-use crate::hands::{Hand, Told, leave_by_hands, leave_row_by_hands, stop_by_hands};
+use crate::hands::{
+    Entry, Hand, Told, enter_by_hands, leave_by_hands, leave_row_by_hands, stop_by_hands,
+};
 use crate::meeting::meet;
 use crate::runs::{Row, stops_by_workers, workers_leave_the_same};
 use crate::tables::{PLANS, Tasks};
@@ -81,6 +83,32 @@ fn two_workers_take_turns(rt: HostRuntime) -> Result<(), Fail> {
             Hand::of(1, Told::Done),
             Hand::of(0, Told::Done),
             Hand::of(1, Told::Done),
+        ],
+    )
+}
+
+/// The gate is told the number of the worker, by its place, and the path of the frame that it goes on with.
+#[test]
+fn the_gate_is_told_the_worker_and_the_task(rt: HostRuntime) -> Result<(), Fail> {
+    let tasks = Tasks {
+        name: "two children that work",
+        tasks: &["spawn:1:9: spawn:2:9: sync", "work work", "work work"],
+        fuel: 50,
+    };
+    enter_by_hands(
+        rt.alloc(),
+        &tasks,
+        3,
+        &[
+            // the root spawns the first child, with which the worker goes on, and then the second one
+            Entry::of_root(2),
+            Entry::of_root(1),
+            Entry::of_child(2, 0),
+            Entry::of_child(1, 1),
+            // the third worker takes the root, which has to wait
+            Entry::of_root(0),
+            Entry::of_child(2, 0),
+            Entry::of_child(1, 1),
         ],
     )
 }

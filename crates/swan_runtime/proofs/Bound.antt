@@ -1,5 +1,5 @@
--- How many turns a run on a stack takes, and how many frames stand there.
-use Rattle.std.proofs.Common.{◌≡◌, ◌≢◌, ℕ, zero, suc, ◌+◌, ◌*◌, ◌≤◌, ◌<◌, true, Option, Some, List, [], ◌∷◌, ◌++◌, length, refl, sym, ap, subst, arith, length-append}
+-- How many turns a run on a stack takes, that each takes a step, and how many frames stand there.
+use Rattle.std.proofs.Common.{◌≡◌, ◌≢◌, ◌⊎◌, inl, inr, ℕ, zero, suc, ◌+◌, ◌*◌, ◌≤◌, ◌<◌, true, Option, Some, List, [], ◌∷◌, ◌++◌, length, refl, sym, ap, subst, arith, length-append}
 use Rattle.std.proofs.lemmas.Option.{slice_get_within}
 use Rattle.std.specs.Prelude.{is_some, slice_get}
 use Rattle.swan_model.specs.declared.body.Body.{Ghosts}
@@ -10,11 +10,12 @@ use Rattle.swan_model.proofs.Lists.{some_within}
 use Rattle.task_frames.specs.declared.resumed.Resumed.{Resumed}
 use Rattle.task_frames.specs.declared.resumed.Resumed.TheVariants as resumed
 use Rattle.task_frames.specs.Cores.{CoreView}
+use Rattle.task_frames.specs.Earliest.{has_stepped}
 use Rattle.task_frames.specs.Frames.{FrameView, IsAnyFrame, TaskView}
 use Rattle.task_frames.specs.Going.{Counts, IsSameFrame}
 use Rattle.task_frames.specs.Resumes.{EndsOf, IsResumed}
 use Rattle.swan_runtime.specs.Stacks.{AreStacked, IsStack, fuel_of, turns_left}
-use Rattle.swan_runtime.specs.Turns.{AreAnyFrames, AreStackTurns, IsTurn, at_start, one_more, with_resumed}
+use Rattle.swan_runtime.specs.Turns.{AreAnyFrames, AreStackTurns, IsTopResumed, IsTurn, at_start, one_more, with_resumed}
 use Rattle.swan_runtime.proofs.Depth.{few-parts}
 use Rattle.swan_runtime.proofs.Spending.{HasFuel, fuel-is, left-more}
 use Rattle.swan_runtime.proofs.Stacking.{top-given}
@@ -66,11 +67,31 @@ module _ {B L E : Type 0} (Q : Type 0) (G : Ghosts B L) (name : E → Option Scr
   turn-leaves : (before after : CoreView B L) (stack then : List Frame) → IsStack of before stack → AreAnyFrames G name of stack → IsTurn Q G name of counts before stack after then
       → IsFewer after then stack
   turn-leaves before after stack then is frames turn =
-      let here = subst (IsStack of before) turn.is is in
-      let are = subst (AreAnyFrames G name of) turn.is frames in
-      let left = by-answer before after turn.below turn.top turn.moved here are turn.steps turn.done turn.own turn.frame turn.whole turn.plan turn.run
-      turn.result turn.answered turn.lasts (subst (AreAnyFrames G name of) turn.then_is turn.frames) in
-      subst (λ x. IsFewer after x stack) (sym turn.then_is) (subst (IsFewer after (with_resumed turn.below turn.result)) (sym turn.is) left)
+      let it = turn.resumed_is in
+      let here = subst (IsStack of before) it.is is in
+      let are = subst (AreAnyFrames G name of) it.is frames in
+      let left = by-answer before after it.below it.top it.moved here are it.steps it.done it.own it.frame it.whole it.plan it.run
+      turn.answer it.answered turn.lasts (subst (AreAnyFrames G name of) turn.then_is turn.frames) in
+      subst (λ x. IsFewer after x stack) (sym turn.then_is) (subst (IsFewer after (with_resumed it.below turn.answer)) (sym it.is) left)
+
+  -- ---- that a step is taken
+
+  top-steps : (before after : CoreView B L) (below : List Frame) (top moved : Frame) → IsStack of before (below ++ top ∷ []) → IsSameFrame name of.run of.ends counts top moved
+      → after.plan ≡ before.plan → after.run ≡ before.run → (answer : Resumed B Q L E) → IsResumed G of before after moved answer
+      → (has_stepped answer ≡ true) ⊎ (answer ≡ resumed.NoMemory)
+  top-steps before after below top moved is own plan run (resumed.Runs next counted) answered = inl refl
+  top-steps before after below top moved is own plan run (resumed.Spawned parent child counted) answered = inl refl
+  top-steps before after below top moved is own plan run (resumed.Waits same waited) answered =
+      absurd (never-waits G name of.run of.ends counts before below top moved is own after plan run answered.3 same waited.wait answered.0 answered.1 answered.2)
+  top-steps before after below top moved is own plan run (resumed.Ended counted) answered = inl refl
+  top-steps before after below top moved is own plan run (resumed.Strange same foreign) answered =
+      absurd (never-strange G name of.run of.ends counts before below top moved is own answered.3)
+  top-steps before after below top moved is own plan run resumed.NoMemory answered = inr refl
+
+  pub each-steps : (before after : CoreView B L) (stack : List Frame) (answer : Resumed B Q L E) → IsStack of before stack
+      → IsTopResumed Q G name of counts before stack after answer → (has_stepped answer ≡ true) ⊎ (answer ≡ resumed.NoMemory)
+  each-steps before after stack answer is it =
+      top-steps before after it.below it.top it.moved (subst (IsStack of before) it.is is) it.own it.plan it.run answer it.answered
 
   -- ---- after several
 

@@ -1,5 +1,5 @@
 -- All workers of an opening, as they take turns.
-use Rattle.std.proofs.Common.{◌≡◌, ⊎_elim, ℕ, ◌<◌, Bool, true, false, true≢false, Some, IsTrue, IfOk, Result, Ok, Err, List, [], ◌∷◌, ◌++◌, All, arith, ap, drop, length, refl, set, slice_get, slice_index_or, subst, sym, take, ◌∙◌}
+use Rattle.std.proofs.Common.{◌≡◌, ⊎_elim, inl, inr, ℕ, ◌+◌, ◌-◌, ◌^◌, ◌<◌, ◌≤◌, min, Bool, true, false, true≢false, Some, IsTrue, IfOk, Result, Ok, Err, List, [], ◌∷◌, ◌++◌, All, arith, ap, drop, length, refl, set, slice_get, slice_index_or, subst, sym, take, ◌∙◌}
 use Rattle.std.specs.Arc.{arc_value}
 use Rattle.std.proofs.Math.Seq.{take-append_seam}
 use Rattle.std.proofs.lemmas.Bool.{or_from, or_parts}
@@ -9,13 +9,21 @@ use Rattle.std.proofs.lemmas.List.Elements.{All-same, All-set}
 use Rattle.named_lock.specs.Seats.{IsSeatOf, any_saw_done, knows, lock_name, lock_seats}
 use Rattle.named_lock.specs.declared.seat.LockSeat.{LockSeat}
 use Rattle.named_lock.specs.declared.lock.NamedLock.{NamedLock}
+use Rattle.swan_model.proofs.Elements.{more_cases}
 use Rattle.swan_model.proofs.Lists.{get-set_same}
 use Rattle.swan_model.specs.declared.plan.Plan.{Plan}
 use Rattle.task_frames.specs.declared.run.PlanRun.{PlanRun}
 use Rattle.task_frames.specs.Resumes.{EndsOf}
 use Rattle.swan_runtime.specs.declared.worker.Worker.{Worker}
 use Rattle.swan_runtime.specs.Shared.{SharedView}
-use Rattle.swan_runtime.specs.Workers.{AreDriven, AreWorkersOfPlan, AreWorkers, IsSameWorker, IsWorker, IsWorkerOf, OneHasMet, has_met, own_of, saw_done, saw_stopped}
+use Rattle.swan_runtime.specs.Workers.{AreDriven, AreNumbered, AreWorkersOfPlan, AreWorkers, IsSameWorker, IsWorker, IsWorkerOf, OneHasMet, has_met, number_of, own_of, saw_done, saw_stopped}
+
+-- the next of the numbers from 0 on, where there is one
+pub next_number : (length left whole number : ℕ) → length + left ≡ whole → 0 < left → whole ≤ 2 ^ 32 → number ≡ min length (2 ^ 32 - 1) → number ≡ length
+next_number length left whole number same some few is = omega arith
+
+pub number_after : (length now number next : ℕ) → number ≡ min length (2 ^ 32 - 1) → now ≡ length + 1 → next ≡ min (number + 1) (2 ^ 32 - 1) → next ≡ min now (2 ^ 32 - 1)
+number_after length now number next is more steps = omega arith
 
 -- what was written over the whole of a list
 pub written : {X : Type 0} (xs ys : List X) (n : ℕ) → n ≡ length xs → length ys ≡ length xs → take n (ys ++ drop (length ys) xs) ≡ ys
@@ -105,6 +113,18 @@ module _ {B Q L E : Type 0} (of : EndsOf E) where
 
   pub this_has_met : (before after : List (Worker B Q L E)) (i : ℕ) (now : Worker B Q L E) → i < length before → after ≡ set before i now → has_met now ≡ true → OneHasMet after
   this_has_met before after i now within is met = record { index = i; worker = now; stands = ap (λ (ws : List (Worker B Q L E)). slice_get ws i) is ∙ get-set_same before i now within; met = met }
+
+  -- ---- their numbers
+
+  -- one more worker, behind them
+  pub numbered_more : (before after : List (Worker B Q L E)) (worker : Worker B Q L E) → after ≡ before ++ worker ∷ [] → number_of worker ≡ length before → AreNumbered before
+      → AreNumbered after
+  numbered_more before after worker is own are = record {
+    each = λ index one stands. elim (more_cases before worker index one (ap (λ (ws : List (Worker B Q L E)). slice_get ws index) (sym is) ∙ stands)) [
+      | inl earlier ↦ are.each index one earlier
+      | inr last ↦ ap number_of last.1 ∙ own ∙ sym last.0
+    ];
+  }
 
   -- as many as the lock has seats
   pub opened_workers : {V F : Type 0} (items : V → List (Worker B Q L E)) (lock : NamedLock (SharedView B L E) (PlanRun B L)) (n : ℕ) (result : Result V F)

@@ -7,9 +7,10 @@ pub mod Spending
 pub mod Turning
 pub mod Depth
 pub mod Bound
--- frames that sleep, and those that are ready
+-- frames that sleep, those that are ready, and whom the core's answers wake
 mod Waking
 mod Bedding
+mod Answering
 -- what a worker's turn answers, and the workers of an opening
 mod TurnsTold
 pub mod Crews

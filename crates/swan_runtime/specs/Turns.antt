@@ -24,8 +24,8 @@ module _ {B L E : Type 0} (G : Ghosts B L) (name : E → Option Script) (of : En
   AreAnyFrames frames = (index : ℕ) (frame : FrameView B L E) → slice_get frames index ≡ Some frame → IsAnyFrame G name of.ends frame
 
 module _ {B L E : Type 0} (Q : Type 0) (G : Ghosts B L) (name : E → Option Script) (of : EndsOf E) (counts : E → Counts) where
-  -- A turn: the top of the stack takes some steps by itself, and is resumed. Memory lasts.
-  pub record IsTurn (before : CoreView B L) (stack : List (FrameView B L E)) (after : CoreView B L) (then : List (FrameView B L E)) : Type 0 where
+  -- The top of a stack takes some steps by itself, and is resumed. The core answers this.
+  pub record IsTopResumed (before : CoreView B L) (stack : List (FrameView B L E)) (after : CoreView B L) (answer : Resumed B Q L E) : Type 0 where
     pub below : List (FrameView B L E)
     pub top : FrameView B L E
     pub is : stack ≡ below ++ top ∷ []
@@ -35,12 +35,16 @@ module _ {B L E : Type 0} (Q : Type 0) (G : Ghosts B L) (name : E → Option Scr
     pub own : IsSameFrame name of.run of.ends counts top moved
     pub frame : IsAnyFrame G name of.ends moved
     pub whole : is_whole moved ≡ true
-    pub result : Resumed B Q L E
-    pub answered : IsResumed G of before after moved result
-    pub lasts : result ≢ resumed.NoMemory
+    pub answered : IsResumed G of before after moved answer
     pub plan : after.plan ≡ before.plan
     pub run : after.run ≡ before.run
-    pub then_is : then ≡ with_resumed below result
+
+  -- A turn: that, where memory lasts, and the stack with what came of it.
+  pub record IsTurn (before : CoreView B L) (stack : List (FrameView B L E)) (after : CoreView B L) (then : List (FrameView B L E)) : Type 0 where
+    pub answer : Resumed B Q L E
+    pub resumed_is : IsTopResumed before stack after answer
+    pub lasts : answer ≢ resumed.NoMemory
+    pub then_is : then ≡ with_resumed resumed_is.below answer
     pub frames : AreAnyFrames G name of then
 
   -- a core and a stack, after so many turns from where the core was opened

@@ -27,6 +27,10 @@ module _ {B Q L E : Type 0} where
   abbrev pub seat_of : Worker B Q L E → View (PlanRun B L)
   seat_of worker = knows (own_of worker).seat
 
+  -- the number by which it enters a gate
+  abbrev pub number_of : Worker B Q L E → ℕ
+  number_of worker = (own_of worker).number
+
   -- whether a turn of its own answered that the run is done or stopped
   abbrev pub has_met : Worker B Q L E → Bool
   has_met worker = (own_of worker).met
@@ -72,6 +76,10 @@ module _ {B Q L E : Type 0} where
     pub some : 0 < length workers
     pub all : length workers ≡ lock_seats lock
     pub each : All (IsWorkerOf of lock) workers
+
+  -- They are numbered from 0 on: each has the number of its place.
+  pub record AreNumbered (workers : List (Worker B Q L E)) : Type 0 where
+    pub each : (index : ℕ) (worker : Worker B Q L E) → slice_get workers index ≡ Some worker → number_of worker ≡ index
 
   -- Their run is of this plan.
   abbrev pub AreWorkersOfPlan : Plan B L → List (Worker B Q L E) → Type 0

@@ -15,6 +15,7 @@
 
 mod alone;
 mod asleep;
+mod backoff;
 mod laws;
 mod limits;
 mod opening;
@@ -29,7 +30,7 @@ mod worker_turns;
 
 pub use alone::run_alone;
 pub use laws::turns_are_few;
-pub use limits::limits_of_shapes;
+pub use limits::{FRUITLESS_MOST, SLEEP_LEAST, SLEEP_MOST, limits_of_shapes, limits_of_sleeps};
 pub use opening::{close, open};
 pub use shape::{RING_MOST, Shape, WORKERS_MOST};
 pub use threads::run;

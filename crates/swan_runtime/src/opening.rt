@@ -1,5 +1,5 @@
 // Opening and closing runs of workers.
-ghost use Rattle.std.specs.Prelude.{◌≡◌, ◌<◌, false, All, IfOk, OnOk, length, vec_len};
+ghost use Rattle.std.specs.Prelude.{◌≡◌, ◌^◌, ◌<◌, ◌≤◌, false, All, IfOk, OnOk, length, vec_len};
 ghost use Rattle.std.specs.Arc.{arc_value};
 ghost use Rattle.swan_model.specs.declared.plan.Plan.{Plan as ThePlan};
 ghost use Rattle.swan_model.specs.Elision.{outcome};
@@ -9,7 +9,7 @@ ghost use Rattle.task_frames.specs.declared.run.PlanRun.{PlanRun};
 ghost use Rattle.swan_runtime.specs.Shared.{SharedView};
 ghost use Rattle.named_lock.specs.Seats.{IsNewSeatOf, IsSeatOf, any_saw_done, lock_name};
 ghost use Rattle.task_frames.specs.Resumes.{IsOpened, ends_of};
-ghost use Rattle.swan_runtime.specs.Workers.{AreWorkers, IsWorkerOf, OneHasMet, AreWorkersOfPlan, has_met, own_of, saw_done, saw_stopped};
+ghost use Rattle.swan_runtime.specs.Workers.{AreNumbered, AreWorkers, IsWorkerOf, OneHasMet, AreWorkersOfPlan, has_met, number_of, saw_done, saw_stopped};
 
 use crate::shared::SharedRun;
 use crate::worker::Own;
@@ -23,8 +23,8 @@ use std::sync::Arc;
 use swan_model::{Body, NoMemory, Plan, RunName};
 use task_frames::{Core, Opened, RunOutcome};
 
-/// Opens a run of a plan, over hyperqueues in the plainest form, with as many workers as the shape says. None of them has met the end of the
-/// run. Err is want of memory. `O(workers)`, and `O(r log r)` for r queues and objects that the plan begins with.
+/// Opens a run of a plan, over hyperqueues in the plainest form, with as many workers as the shape says. They are numbered from 0 on, by their
+/// places, and none of them has met the end of the run. Err is want of memory. `O(workers)`, and `O(r log r)` for r queues and objects that the plan begins with.
 pub fn open<B: Body>(
     alloc: Global,
     plan: Plan<B>,
@@ -32,6 +32,7 @@ pub fn open<B: Body>(
 ) -> Result<Vec<Worker<B, BookQueues>>, NoMemory>
     ensures count { IfOk result (λ workers. vec_len workers ≡ shape.now.workers) }
     ensures workers { IfOk result (λ workers. AreWorkers (ends_of ⟦<NoEnds as LocalEnds>⟧) workers.items) }
+    ensures numbers { IfOk result (λ workers. AreNumbered workers.items) }
     ensures plan { IfOk result (λ workers. AreWorkersOfPlan plan workers.items) }
     ensures met { IfOk result (λ workers. All (λ worker. has_met worker ≡ false) workers.items) }
 {
@@ -50,7 +51,7 @@ fn worker_of<B: Body, Q: Queues>(
     requires seat { IsNewSeatOf (arc_value lock) seat }
     requires body { arc_value body ≡ (lock_name (arc_value lock)).plan.body }
     ensures worker { IsWorkerOf (ends_of Q.Ends.LocalEnds) (arc_value lock) result }
-    ensures number { (own_of result).number ≡ number }
+    ensures number { number_of result ≡ number }
     ensures met { has_met result ≡ false }
 {
     Worker {
@@ -65,7 +66,7 @@ fn worker_of<B: Body, Q: Queues>(
     }
 }
 
-/// A worker for each seat of the lock. Err is want of memory. `O(seats)`, amortised.
+/// A worker for each seat of the lock, numbered from 0 on as far as there are numbers. Err is want of memory. `O(seats)`, amortised.
 fn workers_at<B: Body, Q: Queues>(
     alloc: Global,
     lock: &Arc<NamedLock<SharedRun<B, Q>>>,
@@ -76,6 +77,7 @@ fn workers_at<B: Body, Q: Queues>(
     requires body { arc_value body.now ≡ (lock_name (arc_value lock.now)).plan.body }
     ensures count { IfOk result (λ workers. length workers.items ≡ vec_len seats) }
     ensures workers { IfOk result (λ workers. All (IsWorkerOf (ends_of Q.Ends.LocalEnds) (arc_value lock.now)) workers.items) }
+    ensures numbers { vec_len seats ≤ 2 ^ 32 → IfOk result (λ workers. AreNumbered workers.items) }
     ensures met { IfOk result (λ workers. All (λ worker. has_met worker ≡ false) workers.items) }
 {
     let mut seats = seats;
@@ -101,9 +103,10 @@ fn workers_of<B: Body, Q: Queues>(
     requires body { opened.body.value ≡ opened.core.plan.body }
     requires some { 0 < count }
 
-    // how many there are, and that they are of one run
+    // how many there are, which numbers they have, and that they are of one run
     ensures count { IfOk result (λ workers. vec_len workers ≡ count) }
     ensures workers { IfOk result (λ workers. AreWorkers (ends_of Q.Ends.LocalEnds) workers.items) }
+    ensures numbers { IfOk result (λ workers. AreNumbered workers.items) }
     ensures plan { IfOk result (λ workers. AreWorkersOfPlan opened.core.plan workers.items) }
     ensures met { IfOk result (λ workers. All (λ worker. has_met worker ≡ false) workers.items) }
 {

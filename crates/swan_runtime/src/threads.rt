@@ -5,6 +5,7 @@ ghost use Rattle.swan_model.specs.Script.{script};
 ghost use Rattle.task_frames.specs.Resumes.{ends_of};
 ghost use Rattle.swan_runtime.specs.Workers.{AreDriven, IsDriven, IsWorker};
 
+use crate::backoff::Backoff;
 use crate::{Shape, Turn, Worker, close, open};
 use queues::Queues;
 use std::alloc::Global;
@@ -15,12 +16,6 @@ use std::time::Duration;
 use swan_model::{Body, NoMemory, Plan};
 use swan_outside::Gate;
 use task_frames::RunOutcome;
-
-/// How many turns in a row may take no step before a worker sleeps.
-const FRUITLESS_MOST: u32 = 16;
-
-/// How long it sleeps, in microseconds.
-const SLEEP: u64 = 50;
 
 /// Runs a plan by as many workers as the shape says, each in a thread of its own where one can be made, and answers the outcome of the plan:
 /// that of the serial elision, for every number of workers and every interleaving. Err is want of memory.
@@ -64,7 +59,8 @@ fn drive_all<T: Threads + Wait + Clock + Sync, B: Body, Q: Queues, G: Gate>(
     thread::for_each_mut(rt, workers, count, &one);
 }
 
-/// Takes turns until the run is done or stopped. After some turns in a row that took no step it sleeps a little.
+/// Takes turns until the run is done or stopped. After `FRUITLESS_MOST` turns in a row that took no step it sleeps for `SLEEP_LEAST` microseconds,
+/// and twice as long each further time in a row, up to `SLEEP_MOST`. After a step it begins anew.
 fn drive<T: Wait + Clock, B: Body, Q: Queues, G: Gate>(
     rt: &T,
     alloc: Global,
@@ -74,17 +70,17 @@ fn drive<T: Wait + Clock, B: Body, Q: Queues, G: Gate>(
     requires worker { IsWorker (ends_of Q.Ends.LocalEnds) worker.old }
     ensures { IsDriven (ends_of Q.Ends.LocalEnds) worker.old worker.new }
 {
-    let mut fruitless = 0;
+    let mut backoff = Backoff::new();
     for _ in rt.forever() {
         match worker.turn(alloc, gate) {
             Turn::Done => return,
             Turn::NoMemory => return,
-            Turn::Stepped(_) => fruitless = 0,
-            _ => fruitless += 1,
-        }
-        if fruitless >= FRUITLESS_MOST {
-            thread::sleep(rt, Duration::from_micros(SLEEP));
-            fruitless = 0;
+            Turn::Stepped(_) => backoff = Backoff::new(),
+            _ => {
+                if let Some(micros) = backoff.notes() {
+                    thread::sleep(rt, Duration::from_micros(micros));
+                }
+            }
         }
     }
     unreachable!()

@@ -5,6 +5,7 @@ ghost use Rattle.task_frames.specs.Resumes.{ends_of};
 ghost use Rattle.swan_runtime.specs.Beds.{AreOnlySleepers, HasEntered, HasGoneToBed, NoneAwaits, OnlyWoke, bed_of};
 ghost use Rattle.swan_runtime.specs.Shared.{AreOfRun, AsleepIsOfRun, IsOfRun, IsOnTop, KeepsOfRun, sleeper_count, sleepers_at};
 ghost use Rattle.swan_runtime.specs.Turned.{IsOneTry};
+ghost use Rattle.swan_runtime.specs.Woken.{IsWokenBy};
 
 use crate::Turn;
 use crate::asleep::Asleep;
@@ -164,6 +165,10 @@ pub(crate) fn try_by_core<B: Body, Q: Queues>(
     // what is answered
     ensures tried { IfOk result (λ tried. IsOneTry tried.turn) }
     ensures frame { IfOk result (λ tried. IfSome tried.frame (IsOfRun (ends_of Q.Ends.LocalEnds) core.old.plan core.old.run)) }
+
+    // whom the core's answer wakes, and where the frame goes
+    ensures woken { IfOk result (λ tried. IsWokenBy frame asleep.old asleep.new ready.old.items ready.new.items tried.frame B.Body (ends_of Q.Ends.LocalEnds)
+        core.old core.new) }
 
     // what it leaves
     ensures asleep { AsleepIsOfRun (ends_of Q.Ends.LocalEnds) core.old.plan core.old.run asleep.new }
