@@ -1,5 +1,5 @@
 -- A frame in the middle of its next step, and after steps of its own.
-use Rattle.std.proofs.Common.{◌≡◌, inl, inr, Bool, ℕ, zero, suc, ◌+◌, ◌*◌, ◌-◌, ◌<◌, ◌≤◌, true, Option, Some, refl, sym, ap, subst, ◌∙◌, arith, rules}
+use Rattle.std.proofs.Common.{◌≡◌, inl, inr, Bool, ℕ, zero, suc, ◌+◌, ◌*◌, ◌-◌, ◌<◌, ◌≤◌, true, Option, Some, refl, sym, ap, subst, ◌∙◌, arith}
 use Rattle.std.proofs.lemmas.Bool.{cases_lt}
 use Rattle.std.proofs.lemmas.Option.{same_Some, slice_get-get_or}
 use Rattle.std.specs.Option.{is_some}
@@ -28,11 +28,9 @@ use Rattle.serial_elision.proofs.FewMade.{few-times}
 use Rattle.serial_elision.proofs.TaskSteps.{goes_on_next, stands-one}
 use Rattle.task_frames.specs.declared.at_core.StagedTask.{StagedTask}
 use Rattle.task_frames.specs.declared.stage.Stage.TheVariants.{Ready, Asking}
-use Rattle.task_frames.specs.declared.row.AfterRow.{AfterRow}
 use Rattle.task_frames.specs.declared.stage.Stage.{Stage}
 use Rattle.queues.specs.Reads.{deeds_among}
 use Rattle.task_frames.specs.Frames.{AreEndsOf, AreLocal, IsFrame, TaskView, is_local}
-use Rattle.task_frames.specs.Going.{IsRow, IsRowTo, is_still}
 
 -- what holds of one stage holds of whatever the option has
 pub for-one : {X : Type 0} (P : X → Type 0) (one : X) → P one → (x : X) → Some one ≡ Some x → P x
@@ -205,40 +203,3 @@ module _ {B L : Type 0} (G : Ghosts B L) (name : Option Script) where
       let step = G.next task.plan.body here (told_after said n) (task.fuel - n - 1) in
       let both : (after, asked) ≡ step = ap (λ l. (l, asked)) after_is ∙ ap (λ a. (step.0, a)) asked_is in
       asks now ends here after (told_after said n) asked place (worked-on task ends local said n is begun (omega arith) are) (omega arith) both place_is
-
-  -- a row of steps of work, however it ends
-  rowed-to : (task : TaskView B L) (ends : LentEnds) (local : L) (said : Answer) (budget works left : ℕ) (stage : Stage L) → IsFrame G task name ends (Ready local said)
-      → 0 < task.done → 0 < budget → 0 < task.fuel → AreWork (G.next task.plan.body) local said task.fuel works → IsRowTo G task.plan.body local said task.fuel budget works left stage
-      → IsFrame G (with-steps task (task.done + works) left) name ends stage
-  rowed-to task ends local said budget works left (Ready after told_is) is begun some full are to =
-      subst (λ f. IsFrame G (with-steps task (task.done + works) f) name ends (Ready after told_is)) (sym to.1)
-      (subst (λ a. IsFrame G (with-steps task (task.done + works) (task.fuel - works)) name ends (Ready after a)) (sym to.3)
-      (worked-all task ends local after said works is begun (omega (arith, to.0)) (omega (arith, to.0)) are to.2))
-  rowed-to task ends local said budget works left (Asking after asked place) is begun some full are to =
-      subst (λ f. IsFrame G (with-steps task (task.done + works) f) name ends (Asking after asked place)) (sym to.1)
-      (worked-to task ends local after said asked place works is begun (omega (arith, to.0)) are to.2 to.3 to.4)
-
-  pub rowed : (task : TaskView B L) (ends : LentEnds) (body : B) (local : L) (said : Answer) (budget : ℕ) (row : AfterRow L) → IsFrame G task name ends (Ready local said)
-      → 0 < task.done → body ≡ task.plan.body → 0 < budget → 0 < task.fuel → IsRow G body local said task.fuel budget row
-      → IsFrame G (with-steps task (task.done + row.works) row.fuel) name ends row.stage
-  rowed task ends body local said budget row is begun same some full so =
-      let with_own = subst (λ b. IsRow G b local said task.fuel budget row) same so in
-      rowed-to task ends local said budget row.works row.fuel row.stage is begun some full with_own.works with_own.stands
-
--- a row that is shorter than the budget leaves its frame where no step of work is before it
-still-to : {B L : Type 0} (G : Ghosts B L) (body : B) (local : L) (said : Answer) (fuel budget works left : ℕ) (stage : Stage L) → IsRowTo G body local said fuel budget works left stage
-    → works < budget → is_still left (Some stage) ≡ true
-still-to G body local said fuel budget works left (Ready after told_is) to less = let none : left ≡ 0 = omega (arith, to.0, to.1) in search (rules, none)
-still-to G body local said fuel budget works left (Asking after asked place) to less = refl
-
-pub row-still : {B L : Type 0} (G : Ghosts B L) (body : B) (local : L) (said : Answer) (fuel budget : ℕ) (row : AfterRow L) → IsRow G body local said fuel budget row
-    → row.works < budget → is_still row.fuel (Some row.stage) ≡ true
-row-still G body local said fuel budget row so less = still-to G body local said fuel budget row.works row.fuel row.stage so.stands less
-
-few-to : {B L : Type 0} (G : Ghosts B L) (body : B) (local : L) (said : Answer) (fuel budget works left : ℕ) (stage : Stage L) → IsRowTo G body local said fuel budget works left stage
-    → works ≤ budget
-few-to G body local said fuel budget works left (Ready after told_is) to = omega (arith, to.0)
-few-to G body local said fuel budget works left (Asking after asked place) to = omega (arith, to.0)
-
-pub row-most : {B L : Type 0} (G : Ghosts B L) (body : B) (local : L) (said : Answer) (fuel budget : ℕ) (row : AfterRow L) → IsRow G body local said fuel budget row → row.works ≤ budget
-row-most G body local said fuel budget row so = few-to G body local said fuel budget row.works row.fuel row.stage so.stands

@@ -1,11 +1,12 @@
 -- Lemmas on frames and the core, in the order to read them: no file stands on a later one. What a file is for stands at its head. The
 -- first group is about one frame, those from `GoneOn` on are about what the core keeps, those from `Given` on about its steps, and the last ones about its end and its opening.
 
--- a frame in the middle of a step, and after steps of its own; what its ends serve, and what they show of it
+-- a frame in the middle of a step, and after steps of its own; what its ends serve, and what they show of it; rounds of both
 pub mod Amid
 pub mod Served
 pub mod Shown
 pub mod Same
+pub mod Rounds
 -- a reading that goes on
 pub mod GoneOn
 pub mod CatchUp

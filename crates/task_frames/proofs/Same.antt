@@ -14,7 +14,9 @@ use Rattle.queues.specs.Ends.{EndCounts}
 use Rattle.task_frames.specs.declared.stage.Stage.{Stage}
 use Rattle.task_frames.specs.declared.stage.Stage.TheVariants.{Ready, Asking}
 use Rattle.task_frames.specs.Frames.{FrameView, TaskView}
-use Rattle.task_frames.specs.Going.{AreLater, Counts, IsBeyond, IsLater, IsNotServed, IsSameFrame, NeedsCore, WasEmptySince, WasFullSince, at_first, beyond, counted, full}
+use Rattle.task_frames.specs.declared.paused.Paused.{Paused}
+use Rattle.task_frames.specs.declared.paused.Paused.TheVariants.{AtCore, Budget, NoMemory}
+use Rattle.task_frames.specs.Going.{AreLater, Counts, IsBeyond, IsLater, IsNotServed, IsSameFrame, NeedsCore, OnAtCore, WasEmptySince, WasFullSince, at_first, beyond, counted, full}
 use Rattle.task_frames.proofs.Shown.{same-later, then-later}
 
 full-earlier : (before between after : EndCounts) → IsLater before between → WasFullSince between after → WasFullSince before after
@@ -112,6 +114,33 @@ module _ {B L E : Type 0} (name : E → Option Script) (run : E → List ℕ) (e
   pub needs-earlier : (before between after : FrameView B L E) → Same before between → Same between after → NeedsCore ends counts between after → NeedsCore ends counts before after
   needs-earlier before between after one two (at_first is) = at_first is
   needs-earlier before between after one two (beyond is) = beyond (λ stage at. beyond-earlier before between after stage one two (is stage at))
+
+  -- what needs the core after steps that began with ends that had done a little, needs it since these had done less
+  needs-later : (before between after : FrameView B L E) (was : E) (deeds : ℕ) → was ≡ before.ends → ends between.ends ≡ with_deeds (ends was) deeds
+      → AreLater (ends was) (counts was) (counts between.ends) → Same between after → NeedsCore ends counts between after → NeedsCore ends counts before after
+  needs-later before between after was deeds is are later same (at_first first) = at_first first
+  needs-later before between after was deeds is are later same (beyond found) = beyond (λ stage at. so stage (found stage at)) where
+    so : (stage : Stage L) → IsBeyond ends counts between after stage → IsBeyond ends counts before after stage
+    so (Ready local said) none = none
+    so (Asking local asks place) not =
+        subst (λ e. IsNotServed after.task.holdings (ends after.ends) (counts e) (counts after.ends) asks) is
+        (not-served-earlier after.task.holdings (ends after.ends) (counts was) (counts between.ends) (counts after.ends) asks
+        (λ queue is_producer has. later queue is_producer
+        (sym (ap (λ e. has_end e queue is_producer) same.ends_are ∙ ap (λ e. has_end e queue is_producer) are) ∙ has)) not)
+
+  -- and so it is said of an answer
+  pub at-core-later : (answer : Paused) (before between after : FrameView B L E) (was : E) (deeds : ℕ) → was ≡ before.ends → ends between.ends ≡ with_deeds (ends was) deeds
+      → AreLater (ends was) (counts was) (counts between.ends) → Same between after → OnAtCore answer (λ k. NeedsCore ends counts between after)
+      → OnAtCore answer (λ k. NeedsCore ends counts before after)
+  at-core-later (AtCore steps) before between after was deeds is are later same needs = needs-later before between after was deeds is are later same needs
+  at-core-later (Budget steps) before between after was deeds is are later same needs = needs
+  at-core-later NoMemory before between after was deeds is are later same needs = needs
+
+  -- the same of ends that are still the same
+  pub at-core-still : (answer : Paused) (before between after : FrameView B L E) → between.ends ≡ before.ends → Same between after
+      → OnAtCore answer (λ k. NeedsCore ends counts between after) → OnAtCore answer (λ k. NeedsCore ends counts before after)
+  at-core-still answer before between after is same needs =
+      at-core-later answer before between after between.ends (ends between.ends).deeds is refl (λ queue is_producer has. same-later (counts between.ends queue is_producer)) same needs
 
 module _ {B L E : Type 0} (ends : E → LentEnds) (counts : E → Counts) where
   -- a frame whose next step is beyond it, from how it was before

@@ -1,24 +1,21 @@
 -- How a frame goes on by itself: what its ends serve, what stays as it was, and why it stops.
-use Rattle.std.specs.Prelude.{◌≡◌, ℕ, suc, ◌==◌, ◌+◌, ◌-◌, min, ◌≤◌, ◌<◌, ◌⊎◌, Bool, true, false, Option, Some, None, List, IsSomeAnd}
+use Rattle.std.specs.Prelude.{◌≡◌, ℕ, ◌+◌, ◌≤◌, ◌<◌, ◌⊎◌, Bool, true, false, Option, List, IsSomeAnd}
 use Rattle.std.specs.Option.{ForSome}
 use Rattle.swan_model.specs.declared.body.Answer.{Answer}
 use Rattle.swan_model.specs.declared.body.Answer.TheVariants as answer
 use Rattle.swan_model.specs.declared.body.Ask.{Ask}
 use Rattle.swan_model.specs.declared.body.Ask.TheVariants as ask
-use Rattle.swan_model.specs.declared.body.Body.{Ghosts}
 use Rattle.swan_model.specs.declared.rights.Mode.TheVariants.{Push, Pop}
 use Rattle.swan_model.specs.declared.script.Script.{Script}
 use Rattle.swan_model.specs.declared.value.Value.{Value}
 use Rattle.swan_model.specs.Lawful.{IsLawful}
 use Rattle.swan_model.specs.SerialState.{Holding}
 use Rattle.swan_model.specs.SerialStep.{number_at}
-use Rattle.swan_model.specs.Work.{ask_after, AreWork, local_after}
 use Rattle.swan_model.specs.Values.{COUNT_MOST}
 use Rattle.queues.specs.Asks.{LentEnds, has_end, with_deeds}
 use Rattle.queues.specs.Ends.{EndCounts, HoldsNext, IsItemNext, IsNextPop, IsNextPush, IsNextTest}
 use Rattle.task_frames.specs.declared.paused.Paused.{Paused}
 use Rattle.task_frames.specs.declared.paused.Paused.TheVariants.{AtCore, Budget, NoMemory}
-use Rattle.task_frames.specs.declared.row.AfterRow.{AfterRow}
 use Rattle.task_frames.specs.declared.stage.Stage.{Stage}
 use Rattle.task_frames.specs.declared.stage.Stage.TheVariants.{Ready, Asking}
 use Rattle.task_frames.specs.Frames.{FrameView}
@@ -96,33 +93,6 @@ module _ {L : Type 0} where
   deeds_of (ask.Pop place) = 1
   deeds_of (ask.Empty place) = 1
   deeds_of _ = 0
-
--- ---- steps of work in a row
-
-module _ {B L : Type 0} (G : Ghosts B L) (body : B) (local : L) (said : Answer) (fuel budget : ℕ) where
-  -- how a task stands after so many steps of work and, where it asks for something else then, in the middle of that step
-  abbrev pub IsRowTo : (works left : ℕ) → Stage L → Type 0
-  IsRowTo works left (Ready after told) =
-      (works ≡ min budget fuel) × (left ≡ fuel - works) × (after ≡ local_after (G.next body) local said fuel works) × (told ≡ answer.Nothing)
-  IsRowTo works left (Asking after asks place) =
-      (works < min budget fuel) × (left ≡ fuel - works - 1) × (after ≡ local_after (G.next body) local said fuel (suc works))
-      × (asks ≡ ask_after (G.next body) local said fuel works) × (place ≡ G.place_of body (local_after (G.next body) local said fuel works))
-
-  -- A row of steps of work, with so much fuel before it, which is told this first.
-  pub record IsRow (row : AfterRow L) : Type 0 where
-    pub works : AreWork (G.next body) local said fuel row.works
-    pub stands : IsRowTo row.works row.fuel row.stage
-
--- ---- where it stands
-
--- There is no step of work before the frame: it is in the middle of a step, or has no fuel for one.
-abbrev pub is_still : {L : Type 0} → ℕ → Option (Stage L) → Bool
-is_still fuel None = false
-is_still fuel (Some (Ready local said)) = fuel == 0
-is_still fuel (Some (Asking local asks place)) = true
-
-abbrev pub stands_still : {B L E : Type 0} → FrameView B L E → Bool
-stands_still frame = is_still frame.task.fuel frame.stage
 
 -- ---- what stays
 

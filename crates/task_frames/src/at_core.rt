@@ -133,25 +133,6 @@ impl<B: Body> StagedTask<B> {
     {
         self.stage = Some(stage);
     }
-
-    /// Takes the step in whose middle it is, and is told this. `O(1)`.
-    pub fn is_told(&mut self, answer: Answer)
-        requires few { self.old.task.done < COUNT_MOST }
-        ensures { (local : B.Local) (ask : TheAsk B.Local) (at : ℕ) → self.old.stage ≡ Some (Asking local ask at)
-            → self.new ≡ record self.old { task = one_on self.old.task; stage = Some (Ready local answer) } }
-    {
-        match self.stage.take() {
-            Some(Stage::Asking(local, ask, _)) => {
-                drop(ask);
-                self.task.takes_step();
-                self.stands(Stage::Ready(local, answer));
-            }
-            other => {
-                drop(other);
-                drop(answer);
-            }
-        }
-    }
 }
 
 /// A frame that is at the core: its ends are back.

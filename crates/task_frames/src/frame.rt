@@ -8,17 +8,17 @@ ghost use Rattle.swan_model.specs.QueueState.{after_back};
 ghost use Rattle.queues.specs.Asks.{IsRecorded, IsSameRun, OnNext};
 ghost use Rattle.task_frames.specs.Asked.{asked_queue, queue_of};
 ghost use Rattle.task_frames.specs.Frames.{IsAnyFrame, IsFrame, is_whole};
-ghost use Rattle.task_frames.specs.Going.{IsSameFrame, NeedsCore, OnAtCore, OnBudget, OnNoMemory, OnSteps, is_at_core, stands_still};
+ghost use Rattle.task_frames.specs.Going.{IsSameFrame, NeedsCore, OnAtCore, OnBudget, OnNoMemory, OnSteps, is_at_core};
+ghost use Rattle.swan_model.specs.Values.{COUNT_MOST};
 
 use crate::holding::{hold_same, number_at};
-use crate::row::take_row;
 use crate::serving::serve;
 use crate::{FrameAtCore, Holding, LiveFrame, Paused, PlanRun, Stage, StagedTask, Steps};
 use named_lock::Named;
 use queues::Queues;
 use std::alloc::Global;
 use std::marker::Model;
-use swan_model::{Ask, Body, Meaning, Mode, NoMemory, Path, Plan};
+use swan_model::{Answer, Ask, Body, Meaning, Mode, NoMemory, Path, Plan, Stop, Worked};
 
 /// A frame.
 #[derive(Drop)]
@@ -176,121 +176,6 @@ impl<B: Body, Q: Queues> Frame<B, Q> {
         self.staged.task.number
     }
 
-    /// Takes steps of the frame's own work in a row, where it is at the beginning of a step: up to so many, or up to a
-    /// step that asks for something else, of which it is in the middle then, or with all its fuel. The answer is how many
-    /// steps were work. Err is want of memory: the frame has no local then. It costs what the steps cost.
-    fn work(&mut self, alloc: Global, body: &B, budget: u64) -> Result<u64, NoMemory>
-        // how the frame stands
-        requires body { body.now ≡ self.old.task.plan.body }
-        requires whole { is_whole self.old ≡ true }
-        requires unmarked { self.old.mark ≡ false }
-        requires begun { 0 < self.old.task.done }
-        requires budget { 0 < budget }
-
-        // what it leaves
-        ensures same { IsSameFrame Q.Ends.name Q.Ends.run Q.Ends.ends Q.Ends.counts self.old self.new }
-        ensures mark { self.new.mark ≡ self.old.mark }
-        ensures whole { OnOk result (is_whole self.new ≡ true) }
-        ensures torn { OnErr result (self.new.stage ≡ None) }
-
-        // how many steps were work
-        ensures done { IfOk result (λ works. self.new.task.done ≡ self.old.task.done + works) }
-        ensures most { IfOk result (λ works. works ≤ budget) }
-        ensures amid { IfOk result (λ works. works < budget → stands_still self.new ≡ true) }
-    {
-        let staged = &mut *self.staged;
-        match staged.stage.take() {
-            None => unreachable!(),
-            Some(Stage::Asking(local, ask, place)) => {
-                staged.stands(Stage::Asking(local, ask, place));
-                return Ok(0);
-            }
-            Some(Stage::Ready(local, answer)) => {
-                let fuel = staged.task.fuel();
-                if fuel == 0 {
-                    staged.stands(Stage::Ready(local, answer));
-                    return Ok(0);
-                }
-                let row = take_row(alloc, body, local, answer, fuel, budget)?;
-                staged.task.goes_on(row.works, row.fuel);
-                staged.stands(row.stage);
-                Ok(row.works)
-            }
-        }
-    }
-
-    /// Takes the step in whose middle the frame is, where its ends serve the ask. Else nothing is done. It takes no
-    /// memory. `O(1)`.
-    fn step(&mut self) -> bool
-        // how the frame stands
-        requires whole { is_whole self.old ≡ true }
-        requires begun { 0 < self.old.task.done }
-        requires amid { stands_still self.old ≡ true }
-
-        // what it leaves, and why nothing is done
-        ensures same { IsSameFrame Q.Ends.name Q.Ends.run Q.Ends.ends Q.Ends.counts self.old self.new }
-        ensures mark { self.new.mark ≡ self.old.mark }
-        ensures whole { is_whole self.new ≡ true }
-        ensures done { self.new.task.done ≡ (if result then self.old.task.done + 1 else self.old.task.done) }
-        ensures cause { result ≡ false → NeedsCore Q.Ends.ends Q.Ends.counts self.old self.new }
-    {
-        let staged = &mut *self.staged;
-        match &mut staged.stage {
-            Some(Stage::Asking(_, ask, _)) => {
-                let Some(said) = serve(&mut self.ends, staged.task.holdings(), ask) else {
-                    return false;
-                };
-                staged.is_told(said);
-                true
-            }
-            Some(Stage::Ready(_, _)) => false,
-            None => unreachable!(),
-        }
-    }
-
-    /// Takes a row of steps of work, at most so many steps together, and after it the step that is asked for, where the
-    /// frame's ends serve it. Err is want of memory: the frame has no local then. It costs what the steps cost.
-    fn turn(&mut self, alloc: Global, body: &B, budget: u64) -> Result<OwnSteps, NoMemory>
-        // how the frame stands
-        requires body { body.now ≡ self.old.task.plan.body }
-        requires whole { is_whole self.old ≡ true }
-        requires unmarked { self.old.mark ≡ false }
-        requires begun { 0 < self.old.task.done }
-        requires budget { 0 < budget }
-
-        // what it leaves
-        ensures same { IsSameFrame Q.Ends.name Q.Ends.run Q.Ends.ends Q.Ends.counts self.old self.new }
-        ensures mark { self.new.mark ≡ self.old.mark }
-        ensures whole { OnOk result (is_whole self.new ≡ true) }
-        ensures torn { OnErr result (self.new.stage ≡ None) }
-
-        // how many steps were taken, and why the next one needs the core
-        ensures done { IfOk result (λ turn. self.new.task.done ≡ self.old.task.done + turn.taken) }
-        ensures most { IfOk result (λ turn. turn.taken ≤ budget) }
-        ensures some { IfOk result (λ turn. turn.at_core ≡ false → 0 < turn.taken) }
-        ensures less { IfOk result (λ turn. turn.at_core ≡ true → turn.taken < budget) }
-        ensures cause { IfOk result (λ turn. turn.at_core ≡ true → NeedsCore Q.Ends.ends Q.Ends.counts self.old self.new) }
-    {
-        let works = self.work(alloc, body, budget)?;
-        if works == budget {
-            return Ok(OwnSteps {
-                taken: works,
-                at_core: false,
-            });
-        }
-        if self.step() {
-            Ok(OwnSteps {
-                taken: works + 1,
-                at_core: false,
-            })
-        } else {
-            Ok(OwnSteps {
-                taken: works,
-                at_core: true,
-            })
-        }
-    }
-
     /// Takes steps as `run_local` does, of a frame that has taken some already, and leaves its mark as it is.
     fn run_on(&mut self, alloc: Global, body: &B, budget: u64) -> Paused
         // how the frame stands
@@ -298,6 +183,7 @@ impl<B: Body, Q: Queues> Frame<B, Q> {
         requires whole { is_whole self.old ≡ true }
         requires unmarked { self.old.mark ≡ false }
         requires begun { 0 < self.old.task.done }
+        requires budget { 0 < budget }
 
         // what it leaves
         ensures same { IsSameFrame Q.Ends.name Q.Ends.run Q.Ends.ends Q.Ends.counts self.old self.new }
@@ -311,22 +197,105 @@ impl<B: Body, Q: Queues> Frame<B, Q> {
         ensures budget { OnBudget result (λ k. k ≡ budget) }
         ensures torn { OnNoMemory result (self.new.stage ≡ None) }
     {
-        let mut left = budget;
-        for _turn in 0..budget {
-            if left == 0 {
-                break;
+        let staged = &mut *self.staged;
+        match staged.stage.take() {
+            None => unreachable!(),
+            Some(Stage::Ready(local, answer)) => {
+                self.take_rounds(alloc, body, local, answer, budget, budget)
             }
-            match self.turn(alloc, body, left) {
-                Ok(turn) => {
-                    left -= turn.taken;
-                    if turn.at_core {
-                        return Paused::AtCore(Steps::of(budget - left));
+            Some(Stage::Asking(local, ask, place)) => {
+                let mut ask = ask;
+                match serve(&mut self.ends, staged.task.holdings(), &mut ask) {
+                    Some(said) => {
+                        drop(ask);
+                        staged.task.takes_step();
+                        self.take_rounds(alloc, body, local, said, budget - 1, budget)
+                    }
+                    None => {
+                        staged.stands(Stage::Asking(local, ask, place));
+                        Paused::AtCore(Steps::of(0))
                     }
                 }
-                Err(NoMemory) => return Paused::NoMemory,
             }
         }
-        Paused::Budget(Steps::of(budget))
+    }
+
+    /// Takes steps of a frame with this local and this answer, whose stage is out of its box: up to so many as are left of a
+    /// budget. A round is a row of steps of work by the body's own call, and then the step that is asked for, where the
+    /// frame's ends serve it. The stage is made again where the frame stops, and not before. The answer counts the steps of the budget
+    /// that were taken earlier too.
+    fn take_rounds(
+        &mut self,
+        alloc: Global,
+        body: &B,
+        local: B::Local,
+        answer: Answer,
+        most: u64,
+        budget: u64,
+    ) -> Paused
+        // how the frame stands
+        requires body { body.now ≡ self.old.task.plan.body }
+        requires frame { IsFrame B.Body self.old.task (Q.Ends.name self.old.ends) (Q.Ends.ends self.old.ends) (Ready local answer) }
+        requires out { self.old.stage ≡ None }
+        requires unmarked { self.old.mark ≡ false }
+        requires begun { 0 < self.old.task.done }
+        requires most { most ≤ budget }
+
+        // what it leaves
+        ensures same { IsSameFrame Q.Ends.name Q.Ends.run Q.Ends.ends Q.Ends.counts self.old self.new }
+        ensures mark { self.new.mark ≡ self.old.mark }
+        ensures whole { OnSteps result (λ k. is_whole self.new ≡ true) }
+        ensures done { OnSteps result (λ k. self.new.task.done + budget ≡ self.old.task.done + most + k) }
+
+        // when each answer comes, and what want of memory leaves
+        ensures at_core { OnAtCore result (λ k. k < budget) }
+        ensures cause { OnAtCore result (λ k. NeedsCore Q.Ends.ends Q.Ends.counts self.old self.new) }
+        ensures budget { OnBudget result (λ k. k ≡ budget) }
+        ensures torn { OnNoMemory result (self.new.stage ≡ None) }
+    {
+        let staged = &mut *self.staged;
+        let mut left = most;
+        let mut fuel = staged.task.fuel();
+        let mut local = local;
+        let mut answer = answer;
+        while left > 0 && fuel > 0 {
+            let row = match body.work(alloc, local, answer, fuel, left) {
+                Ok(row) => row,
+                Err(NoMemory) => return Paused::NoMemory,
+            };
+            let Worked {
+                local: after,
+                works,
+                stop,
+            } = row;
+            local = after;
+            left -= works;
+            fuel -= works;
+            match stop {
+                None => answer = Answer::Nothing,
+                Some(Stop { ask, place }) => {
+                    let mut ask = ask;
+                    fuel -= 1;
+                    match serve(&mut self.ends, staged.task.holdings(), &mut ask) {
+                        Some(said) => {
+                            drop(ask);
+                            answer = said;
+                            left -= 1;
+                        }
+                        None => {
+                            comes_to(staged, most - left, fuel, Stage::Asking(local, ask, place));
+                            return Paused::AtCore(Steps::of(budget - left));
+                        }
+                    }
+                }
+            }
+        }
+        comes_to(staged, most - left, fuel, Stage::Ready(local, answer));
+        if left == 0 {
+            Paused::Budget(Steps::of(budget))
+        } else {
+            Paused::AtCore(Steps::of(budget - left))
+        }
     }
 
     /// Takes steps of the frame's task without the core: its own work, pushes and pops that the frame's ends serve, and tests
@@ -422,11 +391,16 @@ fn same_parts(parts: &[u32], others: &[u32]) -> bool
     true
 }
 
-/// What came of a turn of steps that a frame takes by itself.
-#[derive(Drop)]
-struct OwnSteps {
-    taken: u64,
-    at_core: bool,
+/// Leaves a task so many steps further on, with this fuel, and so to its next step. It takes no memory. `O(1)`.
+fn comes_to<B: Body>(staged: &mut StagedTask<B>, steps: u64, fuel: u64, stage: Stage<B::Local>)
+    requires few { staged.old.task.done + steps ≤ COUNT_MOST }
+    ensures { staged.new ≡ record {
+      task = record staged.old.task { done = staged.old.task.done + steps; since = staged.old.task.done + steps; fuel = fuel };
+      stage = Some stage;
+    } }
+{
+    staged.task.goes_on(steps, fuel);
+    staged.stands(stage);
 }
 
 impl<B: Body, Q: Queues> Named for Frame<B, Q> {

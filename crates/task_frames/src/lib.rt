@@ -33,8 +33,8 @@
 //!
 //! Not promised: that memory is found, and how long a body takes for a step.
 //!
-//! Inside, a turn of `run_local` takes a row of steps of work by the body's own call for many steps (`take_row`), and then
-//! the step that is asked for, where the ends serve it (`serve`). `resume` takes the ends of a frame back and notes its steps
+//! Inside, `run_local` has the frame's local in hand, and a round of it takes a row of steps of work by the body's own call for
+//! many steps, and then the step that is asked for, where the ends serve it (`serve`). `resume` takes the ends of a frame back and notes its steps
 //! (`Kept::take_in`), looks whether the frame may begin, asks the body, takes the step (`Kept::step`), and lends ends to the
 //! frames that come of it (`Kept::answer`).
 #![tactic(auto)]
@@ -59,7 +59,6 @@ mod paused;
 mod queue_steps;
 mod reading;
 mod resumed;
-mod row;
 mod run;
 mod run_core;
 mod serving;
@@ -83,7 +82,6 @@ pub use outcome::{Ran, RunOutcome};
 pub use paused::Paused;
 use reading::KeptReading;
 pub use resumed::{Foreign, Resumed, Waited};
-use row::AfterRow;
 pub use run::{PlanRun, Run};
 pub use run_core::Core;
 use stage::Stage;
