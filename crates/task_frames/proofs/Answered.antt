@@ -16,7 +16,7 @@ use Rattle.task_frames.specs.declared.steps.Steps.{Steps}
 use Rattle.task_frames.specs.Cores.{MayBegin, FrameAtCoreView, CoreView, HasIt, IsCore, KeptView, after_coming_in}
 use Rattle.task_frames.specs.Frames.{FrameView, TaskView}
 use Rattle.task_frames.specs.Records.{HasNoLiveChild, IsLiveChild, as_given, come_at, live_at}
-use Rattle.task_frames.specs.Resumes.{MayStep, AreOfPlan, EndsOf, HasCounted, HasCountedAtCore, HasLent, HasNoChildAtCore, HaveCome, IsAnswered, IsNewChildOf, IsGivenAs, IsGivenBy, IsLast, IsLiveBefore, IsNextNumber, IsOneOn, IsResumed, IsShown, IsStep, OnGoneOn, OthersKept, OthersKeptAtEnd, OthersStay, OthersStayAtEnd, WaitsForEarlier, waited_for}
+use Rattle.task_frames.specs.Resumes.{MayStep, AreOfPlan, EndsOf, HasMoreFrames, HasMoreFramesAtCore, HasLent, HasNoChildAtCore, HaveCome, IsAnswered, IsNewChildOf, IsGivenAs, IsGivenBy, IsLast, IsLiveBefore, IsNextNumber, IsOneOn, IsResumed, IsShown, IsStep, OnGoneOn, OthersKept, OthersKeptAtEnd, OthersStay, OthersStayAtEnd, WaitsForEarlier, waited_for}
 use Rattle.task_frames.proofs.Given.{given-stays, has-stays}
 use Rattle.task_frames.proofs.Lives.{child-came, child-comes, come-only}
 
@@ -32,10 +32,10 @@ lent-others before after n lent = record {
 pub lent-run : (before after : KeptView) (n : ℕ) → HasLent before after n → after.run ≡ before.run
 lent-run before after n lent = ap (λ (k : KeptView). k.run) lent.after_is
 
-pub lent-count : (before after : KeptView) (n : ℕ) → HasLent before after n → HasCounted before after 0
+pub lent-count : (before after : KeptView) (n : ℕ) → HasLent before after n → HasMoreFrames before after 0
 lent-count before after n lent = let same : after.frames ≡ before.frames = ap (λ (k : KeptView). k.frames) lent.after_is in omega (arith, same)
 
-then-count : (a b c : KeptView) → HasCounted a b 0 → HasCounted b c 0 → HasCounted a c 0
+then-count : (a b c : KeptView) → HasMoreFrames a b 0 → HasMoreFrames b c 0 → HasMoreFrames a c 0
 then-count a b c first then = omega (arith, first, then)
 
 then-stay : (a b c : KeptView) (IsOther : ℕ → Type 0) → OthersStay a b IsOther → OthersStay b c IsOther → OthersStay a c IsOther
@@ -108,7 +108,7 @@ module _ {B L E : Type 0} (G : Ghosts B L) (of : EndsOf E) (before after : CoreV
   frames-taken : taken.frames ≡ start.frames
   frames-taken = ap (λ (k : KeptView). k.frames) come
 
-  counted-on : (more : ℕ) → HasCounted taken stepped more → HasCounted stepped given 0 → HasCountedAtCore before after more
+  counted-on : (more : ℕ) → HasMoreFrames taken stepped more → HasMoreFrames stepped given 0 → HasMoreFramesAtCore before after more
   counted-on more goes stays = λ x is y its.
       let first : start.frames ≡ x.frames = ap (λ (k : KeptView). k.frames) (same_Some start x (sym start_is ∙ is)) in
       let last : given.frames ≡ y.frames = ap (λ (k : KeptView). k.frames) (same_Some given y (sym given_is ∙ its)) in
@@ -118,7 +118,7 @@ module _ {B L E : Type 0} (G : Ghosts B L) (of : EndsOf E) (before after : CoreV
   next-number number is = λ x kept_is. is ∙ frames-taken ∙ ap (λ (k : KeptView). k.frames) (same_Some start x (sym start_is ∙ kept_is))
 
   -- where nothing was changed
-  counted-same : (a b : KeptView) → b ≡ a → HasCounted a b 0
+  counted-same : (a b : KeptView) → b ≡ a → HasMoreFrames a b 0
   counted-same a b same = let frames : b.frames ≡ a.frames = ap (λ (k : KeptView). k.frames) same in omega (arith, frames)
 
   kept-at-end : OthersStayAtEnd start given n → OthersKeptAtEnd before after n

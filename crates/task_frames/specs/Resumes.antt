@@ -139,8 +139,8 @@ OthersStayAtEnd before after number =
     × OthersStay before after (λ other. (other ≢ number) × (¬ IsLiveChild before.live other number))
 
 -- there were so many frames more since then
-abbrev pub HasCounted : (before after : KeptView) (more : ℕ) → Type 0
-HasCounted before after more = after.frames ≡ before.frames + more
+abbrev pub HasMoreFrames : (before after : KeptView) (more : ℕ) → Type 0
+HasMoreFrames before after more = after.frames ≡ before.frames + more
 
 -- the same task with one step more done
 abbrev pub IsOneOn : {B L : Type 0} → (before after : TaskView B L) → Type 0
@@ -161,18 +161,18 @@ module _ {B L : Type 0} (G : Ghosts B L) (before after : KeptView) (task : TaskV
   IsStep (step.Runs next) =
       HasIt G after next × IsOneOn task next.task × (is_spawn (deed_now G task) ≡ false)
       × OthersStay before after (λ other. other ≢ task.number)
-      × (deed_now G task ≡ deed.Sync → HasNoLiveChild before.live task.number) × MayBegin before task.number × HasCounted before after 0
+      × (deed_now G task ≡ deed.Sync → HasNoLiveChild before.live task.number) × MayBegin before task.number × HasMoreFrames before after 0
   IsStep (step.Spawned parent new) =
       HasIt G after parent × HasIt G after new × IsOneOn task parent.task × IsNewChildOf task new.task × (is_spawn (deed_now G task) ≡ true)
       × (live_at before.live new.task.number ≡ None) × OthersStay before after (λ other. (other ≢ task.number) × (other ≢ new.task.number))
-      × MayBegin before task.number × (new.task.number ≡ before.frames) × HasCounted before after 1
+      × MayBegin before task.number × (new.task.number ≡ before.frames) × HasMoreFrames before after 1
   IsStep (step.Waits same wait_for) =
       HasIt G after same × (after ≡ before) × (same.task ≡ record task { fuel = same.task.fuel })
       × IsShown G after same wait_for × IsLiveBefore after.live task.path (waited_for wait_for)
   IsStep step.Ended =
       IsCore G task.plan after × IsLast G task × (is_spawn (deed_now G task) ≡ false)
       × (live_at after.live task.number ≡ None) × OthersStayAtEnd before after task.number
-      × HasNoLiveChild before.live task.number × MayBegin before task.number × HasCounted before after 0
+      × HasNoLiveChild before.live task.number × MayBegin before task.number × HasMoreFrames before after 0
 
 -- ---- frames that are given
 
@@ -218,10 +218,10 @@ module _ {B Q L E : Type 0} (of : EndsOf E) (before after : KeptView) where
   -- What is answered of a step: the frames are given that came of it, and all others are kept as before.
   abbrev pub IsAnswered : Step B L → Resumed B Q L E → Type 0
   IsAnswered (step.Runs next) (resumed.Runs frame steps) =
-      (steps.count ≡ 1) × IsGivenAs of after next frame × OthersStay before after (λ other. other ≢ next.task.number) × HasCounted before after 0
+      (steps.count ≡ 1) × IsGivenAs of after next frame × OthersStay before after (λ other. other ≢ next.task.number) × HasMoreFrames before after 0
   IsAnswered (step.Spawned parent new) (resumed.Spawned frame spawned steps) =
       (steps.count ≡ 1) × IsGivenAs of after parent frame × IsGivenAs of after new spawned
-      × OthersStay before after (λ other. (other ≢ parent.task.number) × (other ≢ new.task.number)) × HasCounted before after 0
+      × OthersStay before after (λ other. (other ≢ parent.task.number) × (other ≢ new.task.number)) × HasMoreFrames before after 0
   IsAnswered (step.Waits same wait_for) (resumed.Waits frame waited) =
       (waited.wait ≡ wait_for) × IsGivenAs of after same frame × HasLent before after same.task.number
   IsAnswered step.Ended (resumed.Ended steps) = (steps.count ≡ 1) × (after ≡ before)
@@ -258,7 +258,7 @@ pub record IsShownBy {B L E : Type 0} (G : Ghosts B L) (of : EndsOf E) (before a
 abbrev pub OthersKept : {B L : Type 0} → (before after : CoreView B L) → (ℕ → Type 0) → Type 0
 OthersKept before after IsOther = ForSome before.kept (λ kept. ForSome after.kept (λ now. OthersStay kept now IsOther))
 
--- and so they are where the frame of this number has ended, but the one above it may have one more failed child
+-- and so they are where the frame of this number has ended, but the one above it may have another number of failed children
 abbrev pub OthersKeptAtEnd : {B L : Type 0} → (before after : CoreView B L) → ℕ → Type 0
 OthersKeptAtEnd before after number = ForSome before.kept (λ kept. ForSome after.kept (λ now. OthersStayAtEnd kept now number))
 
@@ -279,27 +279,27 @@ abbrev pub IsNextNumber : {B L : Type 0} → CoreView B L → ℕ → Type 0
 IsNextNumber core number = ForSome core.kept (λ kept. number ≡ kept.frames)
 
 -- the core had so many frames more since then
-abbrev pub HasCountedAtCore : {B L : Type 0} → (before after : CoreView B L) (more : ℕ) → Type 0
-HasCountedAtCore before after more = ForSome before.kept (λ kept. ForSome after.kept (λ now. HasCounted kept now more))
+abbrev pub HasMoreFramesAtCore : {B L : Type 0} → (before after : CoreView B L) (more : ℕ) → Type 0
+HasMoreFramesAtCore before after more = ForSome before.kept (λ kept. ForSome after.kept (λ now. HasMoreFrames kept now more))
 
 module _ {B Q L E : Type 0} (G : Ghosts B L) (of : EndsOf E) (before after : CoreView B L) (frame : FrameView B L E) where
   abbrev pub IsResumed : Resumed B Q L E → Type 0
   IsResumed (resumed.Runs next steps) =
       (steps.count ≡ 1) × IsGivenBy of after next × IsOneOn frame.task next.task × (is_spawn (deed_now G frame.task) ≡ false)
       × OthersKept before after (λ other. other ≢ frame.task.number)
-      × (deed_now G frame.task ≡ deed.Sync → HasNoChildAtCore before frame.task.number) × MayStep of before frame × HasCountedAtCore before after 0
+      × (deed_now G frame.task ≡ deed.Sync → HasNoChildAtCore before frame.task.number) × MayStep of before frame × HasMoreFramesAtCore before after 0
   IsResumed (resumed.Spawned parent new steps) =
       (steps.count ≡ 1) × IsGivenBy of after parent × IsGivenBy of after new × IsOneOn frame.task parent.task × IsNewChildOf frame.task new.task
       × (is_spawn (deed_now G frame.task) ≡ true) × HasNone before new.task.number
       × OthersKept before after (λ other. (other ≢ frame.task.number) × (other ≢ new.task.number)) × MayStep of before frame
-      × IsNextNumber before new.task.number × HasCountedAtCore before after 1
+      × IsNextNumber before new.task.number × HasMoreFramesAtCore before after 1
   IsResumed (resumed.Waits same waited) =
       IsGivenBy of after same × (same.task ≡ record frame.task { since = frame.task.done; fuel = same.task.fuel }) × IsShownBy G of before after frame same waited.wait
-      × OthersKept before after (λ other. other ≢ frame.task.number) × HasCountedAtCore before after 0
+      × OthersKept before after (λ other. other ≢ frame.task.number) × HasMoreFramesAtCore before after 0
   IsResumed (resumed.Ended steps) =
       (steps.count ≡ 1) × (is_some after.kept ≡ true) × IsLast G frame.task × (is_spawn (deed_now G frame.task) ≡ false) × HasNone after frame.task.number
       × OthersKeptAtEnd before after frame.task.number
-      × HasNoChildAtCore before frame.task.number × MayStep of before frame × HasCountedAtCore before after 0
+      × HasNoChildAtCore before frame.task.number × MayStep of before frame × HasMoreFramesAtCore before after 0
   IsResumed (resumed.Strange same foreign) =
       (same ≡ frame) × (foreign.number ≡ frame.task.number) × (after ≡ before)
       × ForSome before.kept (λ kept. ¬ IsGiven kept frame.task (of.ends frame.ends))
