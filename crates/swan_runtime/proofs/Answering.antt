@@ -1,5 +1,5 @@
 -- Whom the core's answers wake, by what was done of each.
-use Rattle.std.proofs.Common.{◌≡◌, ◌↔◌, ℕ, ◌+◌, ◌<◌, Bool, true, false, IsTrue, Option, Some, None, List, ◌++◌, IfOk, IfSome, OnOk, Result, Ok, Err, arith, ap, length, option_to_list, refl, subst, sym, ◌∙◌}
+use Rattle.std.proofs.Common.{◌≡◌, ◌≢◌, ◌↔◌, ℕ, ◌+◌, ◌<◌, Bool, true, false, IsTrue, Option, Some, None, List, ◌++◌, IfOk, IfSome, OnOk, Result, Ok, Err, arith, ap, length, option_to_list, refl, subst, sym, ◌∙◌}
 use Rattle.swan_model.specs.declared.body.Body.{Ghosts}
 use Rattle.task_frames.specs.declared.resumed.Resumed.{Resumed}
 use Rattle.task_frames.specs.declared.resumed.Resumed.TheVariants as resumed
@@ -28,8 +28,9 @@ module _ {B Q L E X : Type 0} (G : Ghosts B L) (of : EndsOf E) (core now : CoreV
 
   pub runs_wake : {F : Type 0} (result : Result X F) (next : FrameView B L E) (steps : Steps) (begun : Bool) (asked : Option ℕ) → IsAnswer (resumed.Runs next steps) → (IsTrue begun ↔ (0 < frame.task.done))
       → asked ≡ asked_queue frame → IfOk result (λ tried. next_of tried ≡ Some next) → OnOk result (IfSome asked (λ queue. NoneAwaits queue (sleepers_at after next.task.number)))
-      → OnOk result (begun ≡ false → (queue : ℕ) → NoneAwaits queue (sleepers_at after next.task.number)) → OnlyWoke next.task.number before after → IfOk result IsWoken
-  runs_wake (Ok tried) next steps begun asked answered had asks goes woken first only =
+      → OnOk result (begun ≡ false → (queue : ℕ) → NoneAwaits queue (sleepers_at after next.task.number)) → OnlyWoke next.task.number before after
+      → OnOk result (length left + sleeper_count (sleepers_at after next.task.number) ≡ length ready + sleeper_count (sleepers_at before next.task.number)) → IfOk result IsWoken
+  runs_wake (Ok tried) next steps begun asked answered had asks goes woken first only none_lost =
       let same : next.task.number ≡ frame.task.number = ap (λ (t : TaskView B L). t.number) answered.2 in
       let none : IfSome (asked_queue frame) (λ queue. NoneAwaits queue (sleepers_at after next.task.number)) =
       subst (λ (a : Option ℕ). IfSome a (λ queue. NoneAwaits queue (sleepers_at after next.task.number))) asks woken in
@@ -41,20 +42,29 @@ module _ {B Q L E X : Type 0} (G : Ghosts B L) (of : EndsOf E) (core now : CoreV
           λ is queue. subst (λ (n : ℕ). NoneAwaits queue (sleepers_at after n)) same (first (not_begun begun frame.task.done had is) queue),
           subst (λ (n : ℕ). OnlyWoke n before after) same only,
           goes,
+          subst (λ (n : ℕ). length left + sleeper_count (sleepers_at after n) ≡ length ready + sleeper_count (sleepers_at before n)) same none_lost,
         );
       }
-  runs_wake (Err none) next steps begun asked answered had asks goes woken first only = tt
+  runs_wake (Err none) next steps begun asked answered had asks goes woken first only none_lost = tt
 
   pub spawns_wake : {F : Type 0} (result : Result X F) (parent child : FrameView B L E) (steps : Steps) → IsAnswer (resumed.Spawned parent child steps) → IfOk result (λ tried. next_of tried ≡ Some child)
-      → OnOk result (HasEntered before after parent.task.number child.task.number child.task.holdings) → OnOk result (IsOnTop parent left) → IfOk result IsWoken
-  spawns_wake (Ok tried) parent child steps answered goes entered ready =
+      → OnOk result (HasEntered before after parent.task.number child.task.number child.task.holdings) → OnOk result (IsOnTop parent left)
+      → OnOk result (parent.task.number ≢ child.task.number
+      → length left + sleeper_count (sleepers_at after parent.task.number) ≡ length ready + sleeper_count (sleepers_at before parent.task.number) + 1) → IfOk result IsWoken
+  spawns_wake (Ok tried) parent child steps answered goes entered top none_lost =
       let same : parent.task.number ≡ frame.task.number = ap (λ (t : TaskView B L). t.number) answered.3 in
       record {
         answer = resumed.Spawned parent child steps;
         answered = answered;
-        woken = (subst (λ (n : ℕ). HasEntered before after n child.task.number child.task.holdings) same entered, ready, goes);
+        woken = (
+          subst (λ (n : ℕ). HasEntered before after n child.task.number child.task.holdings) same entered,
+          top,
+          goes,
+          subst (λ (n : ℕ). length left + sleeper_count (sleepers_at after n) ≡ length ready + sleeper_count (sleepers_at before n) + 1) same
+              (none_lost (λ equal. answered.4.other (sym equal ∙ same))),
+        );
       }
-  spawns_wake (Err none) parent child steps answered goes entered ready = tt
+  spawns_wake (Err none) parent child steps answered goes entered top none_lost = tt
 
   pub waits_wake : {F : Type 0} (result : Result X F) (same : FrameView B L E) (waited : Waited) → IsAnswer (resumed.Waits same waited)
       → IfOk result (λ tried. HasGoneToBed (bed_of before same.task.number waited.wait) before after ready (left ++ option_to_list (next_of tried)) same waited.wait) → IfOk result IsWoken

@@ -1,5 +1,5 @@
 -- Who sleeps under a frame as it is looked up, and as it changes.
-use Rattle.std.proofs.Common.{◌≡◌, ◌≢◌, ◌==◌, ◌&&◌, ◌||◌, ℕ, ◌+◌, ◌<◌, Bool, true, false, cond, Option, Some, None, List, [], ◌∷◌, ◌++◌, All, IfSome, IsSomeAnd, MatchOption, OnOk, Result, inl, inr, length, drop, take, get_or, slice_index_or, if◌then◌else◌, suc, refl, sym, ap, subst, ◌∙◌, arith}
+use Rattle.std.proofs.Common.{◌≡◌, ◌≢◌, ◌==◌, ◌&&◌, ◌||◌, ℕ, ◌+◌, ◌<◌, Bool, true, false, cond, Option, Some, None, List, [], ◌∷◌, ◌++◌, All, IfSome, IsSomeAnd, MatchOption, OnOk, Result, inl, inr, length, drop, take, get_or, slice_index_or, vec_len, if◌then◌else◌, suc, refl, sym, ap, subst, ◌∙◌, arith}
 use Rattle.std.proofs.Math.Seq.{drop-cons}
 use Rattle.std.proofs.lemmas.Bool.Decides.{nat_tests}
 use Rattle.std.proofs.lemmas.List.{take-append-drop, take_more}
@@ -28,7 +28,7 @@ use Rattle.swan_runtime.specs.declared.asleep.Asleep.{Asleep}
 use Rattle.swan_runtime.specs.declared.sleepers.Popper.{Popper}
 use Rattle.swan_runtime.specs.declared.sleepers.Sleepers.{Sleepers}
 use Rattle.swan_runtime.specs.Beds.{AreNewSleepers, AreOnlySleepers, HasEntered, HasGoneToBed, HasNoted, HasNotedAt, HasSameNotes, HasSameNotesAt, IsNoted, NoneAwaits, OnlyWoke, OtherSleepersStay, SleepsUnder, before_child, popper_at, poppers_of}
-use Rattle.swan_runtime.specs.Shared.{HasTakenIn, sleepers_at}
+use Rattle.swan_runtime.specs.Shared.{HasTakenIn, sleeper_count, sleepers_at}
 
 -- ---- one place more
 
@@ -233,3 +233,16 @@ module _ {B Q L E : Type 0} where
         woken = λ ne queue held. subst (NoneAwaits queue) (sym (stays parent ne)) (awaits_on queue (sleepers_at b parent) (sleepers_at c parent) child hs noted (woken queue held));
         others = λ other not_parent not_child. stays other not_child ∙ others.others other not_parent ∙ woke.others.others other not_parent;
       }
+
+  -- as many sleep under the parent as before the child was noted
+  noted_count : (b c : Option (Sleepers B Q L E)) (child : ℕ) (hs : List Holding) → HasNotedAt b c child hs → sleeper_count c ≡ sleeper_count b
+  noted_count None c child hs noted = ap sleeper_count noted
+  noted_count (Some y) None child hs noted = absurd noted
+  noted_count (Some y) (Some z) child hs noted =
+      ap (λ v. vec_len v + vec_len z.at_push) noted.sleepers.at_end ∙ ap (λ v. vec_len y.at_end + vec_len v) noted.sleepers.at_push
+
+  -- so none was lost since before some were woken, if none was by that
+  pub entered_count : (b c d : Option (Sleepers B Q L E)) (child : ℕ) (hs : List Holding) (left ready before : ℕ) → left + sleeper_count b ≡ ready + before
+      → HasNotedAt b c child hs → d ≡ c → left + sleeper_count d ≡ ready + before
+  entered_count b c d child hs left ready before lost noted same =
+      ap (λ s. left + sleeper_count s) same ∙ ap (λ n. left + n) (noted_count b c child hs noted) ∙ lost

@@ -76,6 +76,7 @@ impl<B: Body, Q: Queues> Asleep<B, Q> {
         number: u64,
     ) -> Result<(), NoMemory>
         ensures kept { KeepsOfRun (ends_of Q.Ends.LocalEnds) [] self.old self.new ready.old.items ready.new.items }
+        ensures none_lost { OnOk result (vec_len ready.new + sleeper_count (sleepers_at self.new number) ≡ vec_len ready.old + sleeper_count (sleepers_at self.old number)) }
         ensures woken { OnOk result ((queue : ℕ) → NoneAwaits queue (sleepers_at self.new number)) }
         ensures sleepers { OnlyWoke number self.old self.new }
     {
@@ -94,6 +95,7 @@ impl<B: Body, Q: Queues> Asleep<B, Q> {
         asked: Option<u32>,
     ) -> Result<(), NoMemory>
         ensures kept { KeepsOfRun (ends_of Q.Ends.LocalEnds) [] self.old self.new ready.old.items ready.new.items }
+        ensures none_lost { OnOk result (vec_len ready.new + sleeper_count (sleepers_at self.new number) ≡ vec_len ready.old + sleeper_count (sleepers_at self.old number)) }
         ensures woken { OnOk result (IfSome asked (λ queue. NoneAwaits queue (sleepers_at self.new number))) }
         ensures sleepers { OnlyWoke number self.old self.new }
     {
@@ -114,6 +116,7 @@ impl<B: Body, Q: Queues> Asleep<B, Q> {
         asked: Option<u32>,
     ) -> Result<(), NoMemory>
         ensures kept { KeepsOfRun (ends_of Q.Ends.LocalEnds) [] self.old self.new ready.old.items ready.new.items }
+        ensures none_lost { OnOk result (vec_len ready.new + sleeper_count (sleepers_at self.new number) ≡ vec_len ready.old + sleeper_count (sleepers_at self.old number)) }
         ensures woken { OnOk result (IfSome asked (λ queue. NoneAwaits queue (sleepers_at self.new number))) }
         ensures first { OnOk result (had_begun ≡ false → (queue : ℕ) → NoneAwaits queue (sleepers_at self.new number)) }
         ensures sleepers { OnlyWoke number self.old self.new }
@@ -154,6 +157,7 @@ impl<B: Body, Q: Queues> Asleep<B, Q> {
         holding: Holding,
     ) -> Result<(), NoMemory>
         ensures kept { KeepsOfRun (ends_of Q.Ends.LocalEnds) [] self.old self.new ready.old.items ready.new.items }
+        ensures none_lost { OnOk result (vec_len ready.new + sleeper_count (sleepers_at self.new number) ≡ vec_len ready.old + sleeper_count (sleepers_at self.old number)) }
         ensures woken { OnOk result (allows holding.mode Push ≡ true → NoneAwaits holding.number (sleepers_at self.new number)) }
         ensures sleepers { OnlyWoke number self.old self.new }
     {
@@ -173,6 +177,7 @@ impl<B: Body, Q: Queues> Asleep<B, Q> {
         holdings: &[Holding],
     ) -> Result<(), NoMemory>
         ensures kept { KeepsOfRun (ends_of Q.Ends.LocalEnds) [] self.old self.new ready.old.items ready.new.items }
+        ensures none_lost { OnOk result (vec_len ready.new + sleeper_count (sleepers_at self.new number) ≡ vec_len ready.old + sleeper_count (sleepers_at self.old number)) }
         ensures woken { OnOk result ((queue : ℕ) → lets_use holdings.now queue Push ≡ true → NoneAwaits queue (sleepers_at self.new number)) }
         ensures sleepers { OnlyWoke number self.old self.new }
     {
@@ -195,6 +200,8 @@ impl<B: Body, Q: Queues> Asleep<B, Q> {
         holdings: &[Holding],
     ) -> Result<(), NoMemory>
         ensures kept { KeepsOfRun (ends_of Q.Ends.LocalEnds) [] self.old self.new ready.old.items ready.new.items }
+        ensures none_lost { OnOk result (parent ≢ child
+            → vec_len ready.new + sleeper_count (sleepers_at self.new parent) ≡ vec_len ready.old + sleeper_count (sleepers_at self.old parent)) }
         ensures entered { OnOk result (HasEntered self.old self.new parent child holdings.now) }
     {
         self.wake_given(ready, parent, holdings)?;

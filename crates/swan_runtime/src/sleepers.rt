@@ -164,6 +164,7 @@ impl<B: Body, Q: Queues> Sleepers<B, Q> {
 
         // who wakes, and that none is lost
         ensures woken { OnOk result ((queue : ℕ) → NoneAwaits queue (Some self.new)) }
+        ensures none_left { OnOk result (vec_len self.new.at_push ≡ 0) }
         ensures none_more { (other : ℕ) → NoneAwaits other (Some self.old) → NoneAwaits other (Some self.new) }
         ensures none_lost { OnOk result (vec_len ready.new ≡ vec_len ready.old + vec_len self.old.at_push) }
 

@@ -41,10 +41,12 @@ fn has_run<B: Body, Q: Queues>(
     ensures frame { IfOk result (λ tried. tried.frame ≡ Some frame) }
     ensures kept { KeepsOfRun (ends_of Q.Ends.LocalEnds) [] asleep.old asleep.new ready.old.items ready.new.items }
 
-    // whom the step wakes
+    // whom the step wakes, and that none is lost
     ensures woken { OnOk result (IfSome asked (λ queue. NoneAwaits queue (sleepers_at asleep.new frame.task.number))) }
     ensures first { OnOk result (had_begun ≡ false → (queue : ℕ) → NoneAwaits queue (sleepers_at asleep.new frame.task.number)) }
     ensures sleepers { OnlyWoke frame.task.number asleep.old asleep.new }
+    ensures none_lost { OnOk result (length ready.new.items + sleeper_count (sleepers_at asleep.new frame.task.number)
+        ≡ length ready.old.items + sleeper_count (sleepers_at asleep.old frame.task.number)) }
 {
     asleep.wake_by_step(ready, frame.number(), had_begun, asked)?;
     Ok(Tried {
@@ -70,9 +72,11 @@ fn has_spawned<B: Body, Q: Queues>(
     ensures frame { IfOk result (λ tried. tried.frame ≡ Some child) }
     ensures kept { KeepsOfRun (ends_of Q.Ends.LocalEnds) (parent ∷ []) asleep.old asleep.new ready.old.items ready.new.items }
 
-    // who has come in, and that the parent is the first of those that are ready
+    // who has come in, that the parent is the first of those that are ready, and that none is lost
     ensures entered { OnOk result (HasEntered asleep.old asleep.new parent.task.number child.task.number child.task.holdings) }
     ensures ready { OnOk result (IsOnTop parent ready.new.items) }
+    ensures none_lost { OnOk result (parent.task.number ≢ child.task.number → length ready.new.items + sleeper_count (sleepers_at asleep.new parent.task.number)
+        ≡ length ready.old.items + sleeper_count (sleepers_at asleep.old parent.task.number) + 1) }
 {
     asleep.enter(
         alloc,

@@ -35,12 +35,13 @@ returns-in-Runs-clause-woken g c =
     runs_wake g.B.Body (ends_of g.Q.Ends.LocalEnds) c.args.core.now c.resume.new.self c.args.frame c.args.asleep.now c.has_run.new.asleep c.args.ready.now.items c.has_run.new.ready.items
     (λ (t : Tried _ _ _ _). t.frame) c.has_run.result c.in-Runs.frame c.in-Runs.steps c.has_begun-had_begun.result c.asked_queue-asked.result c.in-Runs.ensures.resumed
     c.has_begun-had_begun.ensures c.asked_queue-asked.ensures c.has_run.ensures.frame c.has_run.ensures.woken c.has_run.ensures.first c.has_run.ensures.sleepers
+    c.has_run.ensures.none_lost
 
 pub returns-in-Spawned-clause-woken : goal.returns-in-Spawned-clause-woken
 returns-in-Spawned-clause-woken g c =
     spawns_wake g.B.Body (ends_of g.Q.Ends.LocalEnds) c.args.core.now c.resume.new.self c.args.frame c.args.asleep.now c.has_spawned.new.asleep c.args.ready.now.items c.has_spawned.new.ready.items
     (λ (t : Tried _ _ _ _). t.frame) c.has_spawned.result c.in-Spawned.parent c.in-Spawned.child c.in-Spawned.steps c.in-Spawned.ensures.resumed
-    c.has_spawned.ensures.frame c.has_spawned.ensures.entered c.has_spawned.ensures.ready
+    c.has_spawned.ensures.frame c.has_spawned.ensures.entered c.has_spawned.ensures.ready c.has_spawned.ensures.none_lost
 
 pub returns-in-Ended-clause-woken : goal.returns-in-Ended-clause-woken
 returns-in-Ended-clause-woken g c =

@@ -1,5 +1,6 @@
 use Rattle.task_frames.specs.Resumes.{ends_of}
-use Rattle.swan_runtime.proofs.Bedding.{has_entered}
+use Rattle.swan_runtime.proofs.Bedding.{entered_count, has_entered}
+use Rattle.swan_model.proofs.Lookups.{untied}
 use Rattle.swan_runtime.proofs.Waking.{all_same, no_sleepers, sleepers_inserted}
 use Rattle.swan_runtime.proofs.asleep.Asleep.enter.Goals as goal
 
@@ -32,3 +33,8 @@ pub returns-clause-entered : goal.returns-clause-entered
 returns-clause-entered g c =
     has_entered _ _ c.spawns.new.self _ c.args.parent c.args.child c.args.holdings.now _ c.new.result c.wake_given.ensures.sleepers c.in_ok-wake_given.ensures.woken c.in_ok-before.ensures.noted c.spawns.ensures.others
     c.in_ok-before.ensures.before c.new.ensures c.in_ok-insert.ensures.updates
+
+pub returns-clause-none_lost : goal.returns-clause-none_lost
+returns-clause-none_lost g c = λ ne.
+    entered_count _ _ _ c.args.child c.args.holdings.now _ _ _ c.in_ok-wake_given.ensures.none_lost c.in_ok-before.ensures.noted
+    (c.in_ok-insert.ensures.updates.2 c.args.parent (untied c.args.child c.args.parent ne))
